@@ -1,0 +1,9 @@
+pub mod Lists
+pub mod Cube
+pub mod Pairs
+pub mod Graph
+pub mod Loops
+pub mod Cutting
+pub mod Triangles
+pub mod Patches
+pub mod Rows
