@@ -11,14 +11,7 @@ use Rattle.cube.specs.Cube.{kinds}
 use Rattle.cube.specs.Triangles.{cut-all}
 use Rattle.cube.specs.declared.pair.Connectedness.the-variants.{Eighteen}
 use Rattle.cube.specs.declared.triangle.CubeTriangle.{CubeTriangle}
-
-pub both-left : (a b : Bool) → T (both a b) → T a
-both-left true b t = tt
-both-left false b t = t
-
-pub both-right : (a b : Bool) → T (both a b) → T b
-both-right true b t = t
-both-right false b t = absurd t
+use Rattle.cube.proofs.Listed.{both-left, both-right}
 
 from : (f : ℕ → Bool) (n i : ℕ) → T (passes f n i) → (k : ℕ) → k < n → T (f (i + k))
 from f zero i t k h = absurd (not-suc-le-zero h)

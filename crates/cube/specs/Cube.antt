@@ -1,8 +1,8 @@
 -- The cube of eight voxels: its links, its faces, the kinds of its voxels, its mask. Assumes nothing.
 use mathlib.Core.Bool.{Bool, true, false, not}
 use mathlib.Core.List.{List, [], _∷_}
-use Prim.Native.Nat.{ℕ, suc, _/_, _%_}
-use lib.Dec.{eqb}
+use Prim.Native.Nat.{ℕ, _/_, _%_, _^_}
+use lib.Dec.{T, eqb}
 use lib.ListN.{getD}
 use Rattle.cube.specs.Lists.{same}
 
@@ -21,6 +21,9 @@ abbrev pub links : List (ℕ × ℕ)
 links =
     (0, 1) ∷ (2, 3) ∷ (4, 5) ∷ (6, 7) ∷ (0, 2) ∷ (1, 3) ∷ (4, 6) ∷ (5, 7) ∷ (0, 4) ∷ (1, 5) ∷ (2, 6) ∷ (3, 7) ∷ []
 
+abbrev pub voxels : List ℕ
+voxels = 0 ∷ 1 ∷ 2 ∷ 3 ∷ 4 ∷ 5 ∷ 6 ∷ 7 ∷ []
+
 abbrev pub link-numbers : List ℕ
 link-numbers = 0 ∷ 1 ∷ 2 ∷ 3 ∷ 4 ∷ 5 ∷ 6 ∷ 7 ∷ 8 ∷ 9 ∷ 10 ∷ 11 ∷ []
 
@@ -34,32 +37,44 @@ upper l = getD links l (0, 0) .1
 abbrev pub axis : ℕ → ℕ
 axis l = l / 4
 
--- The number of the link between two voxels, whichever is named first; looked for from link i on.
-abbrev pub number-in : List (ℕ × ℕ) → ℕ → ℕ → ℕ → ℕ
-number-in [] i a b = i
-number-in (l ∷ ls) i a b =
-    elim (same l (a, b)) [ true ↦ i | false ↦ elim (same l (b, a)) [ true ↦ i | false ↦ number-in ls (suc i) a b ] ]
+-- A link joins two voxels, whichever is named first.
+abbrev pub joins : ℕ → ℕ → ℕ → Bool
+joins l a b = elim (same (a, b) (lower l, upper l)) [ true ↦ true | false ↦ same (b, a) (lower l, upper l) ]
 
-abbrev pub link-of : ℕ → ℕ → ℕ
-link-of a b = number-in links 0 a b
-
--- A face, by its four voxels as they are walked.
+-- A face, by its four voxels as they are walked, and by the links that the walk passes from each to the next.
 pub record Face : Type 0 where
   pub a : ℕ
   pub b : ℕ
   pub c : ℕ
   pub d : ℕ
+  pub ab : ℕ
+  pub bc : ℕ
+  pub cd : ℕ
+  pub da : ℕ
 
-abbrev face : ℕ → ℕ → ℕ → ℕ → Face
-face a b c d = record { a = a; b = b; c = c; d = d }
+-- The walk passes the links between its voxels.
+pub record Walked (f : Face) : Type 0 where
+  pub ab : T (joins (f .ab) (f .a) (f .b))
+  pub bc : T (joins (f .bc) (f .b) (f .c))
+  pub cd : T (joins (f .cd) (f .c) (f .d))
+  pub da : T (joins (f .da) (f .d) (f .a))
+
+abbrev face : ℕ → ℕ → ℕ → ℕ → ℕ → ℕ → ℕ → ℕ → Face
+face a b c d ab bc cd da = record { a = a; b = b; c = c; d = d; ab = ab; bc = bc; cd = cd; da = da }
 
 -- The six faces, each walked anticlockwise as seen from inside the cube.
 abbrev pub faces : List Face
-faces = face 0 1 3 2 ∷ face 4 6 7 5 ∷ face 0 2 6 4 ∷ face 1 5 7 3 ∷ face 0 4 5 1 ∷ face 2 3 7 6 ∷ []
+faces =
+    face 0 1 3 2 0 5 1 4 ∷
+    face 4 6 7 5 6 3 7 2 ∷
+    face 0 2 6 4 4 10 6 8 ∷
+    face 1 5 7 3 9 7 11 5 ∷
+    face 0 4 5 1 8 2 9 0 ∷
+    face 2 3 7 6 1 11 3 10 ∷
+    []
 
--- The links that a walk round a face passes, in its order.
 abbrev pub face-links : Face → List ℕ
-face-links f = link-of (f .a) (f .b) ∷ link-of (f .b) (f .c) ∷ link-of (f .c) (f .d) ∷ link-of (f .d) (f .a) ∷ []
+face-links f = f .ab ∷ f .bc ∷ f .cd ∷ f .da ∷ []
 
 -- The kinds of a cube's eight voxels: true where solid, false where hollow.
 pub record Kinds : Type 0 where
@@ -91,19 +106,33 @@ exchange k =
 
 -- Bit i of a mask is set where voxel i is solid.
 abbrev pub bit : ℕ → ℕ → Bool
-bit m i = eqb (m / i % 2) 1
+bit m i = eqb (m / 2 ^ i % 2) 1
 
 abbrev pub kinds : ℕ → Kinds
 kinds m =
     record {
-      v0 = bit m 1;
-      v1 = bit m 2;
-      v2 = bit m 4;
-      v3 = bit m 8;
-      v4 = bit m 16;
-      v5 = bit m 32;
-      v6 = bit m 64;
-      v7 = bit m 128;
+      v0 = bit m 0;
+      v1 = bit m 1;
+      v2 = bit m 2;
+      v3 = bit m 3;
+      v4 = bit m 4;
+      v5 = bit m 5;
+      v6 = bit m 6;
+      v7 = bit m 7;
+    }
+
+-- The kinds that a list of eight tells.
+abbrev pub kinds-in : List Bool → Kinds
+kinds-in ks =
+    record {
+      v0 = getD ks 0 false;
+      v1 = getD ks 1 false;
+      v2 = getD ks 2 false;
+      v3 = getD ks 3 false;
+      v4 = getD ks 4 false;
+      v5 = getD ks 5 false;
+      v6 = getD ks 6 false;
+      v7 = getD ks 7 false;
     }
 
 -- A link carries a corner where one of its ends is solid and the other hollow.

@@ -7,7 +7,7 @@ use lib.IntN.{ℤ, pos, _+ℤ_, _-ℤ_, _*ℤ_}
 use lib.ListN.{getD, length}
 use lib.Signed.{leZ}
 use Rattle.cube.specs.Lists.{gather, keep, every, some, first, same}
-use Rattle.cube.specs.Cube.{Face, faces, face-links, Kinds, solid, lower, upper, dx, dy, dz}
+use Rattle.cube.specs.Cube.{Face, faces, face-links, Kinds, solid, voxels, lower, upper, dx, dy, dz}
 use Rattle.cube.specs.Loops.{corners}
 use Rattle.cube.specs.declared.triangle.CubeTriangle.{CubeTriangle}
 
@@ -41,16 +41,24 @@ corner-point l = midway (lower l) (upper l)
 abbrev pub minus : Point → Point → Point
 minus a b = record { x = a .x -ℤ b .x; y = a .y -ℤ b .y; z = a .z -ℤ b .z }
 
-abbrev pub det : Point → Point → Point → ℤ
-det u v w =
-    (u .x *ℤ (v .y *ℤ w .z -ℤ v .z *ℤ w .y)) +ℤ ((u .y *ℤ (v .z *ℤ w .x -ℤ v .x *ℤ w .z)) +ℤ (u .z *ℤ (v .x *ℤ w .y -ℤ v .y *ℤ w .x)))
+abbrev pub cross : Point → Point → Point
+cross u v =
+    record {
+      x = u .y *ℤ v .z -ℤ u .z *ℤ v .y;
+      y = u .z *ℤ v .x -ℤ u .x *ℤ v .z;
+      z = u .x *ℤ v .y -ℤ u .y *ℤ v .x;
+    }
+
+abbrev pub dot : Point → Point → ℤ
+dot u v = u .x *ℤ v .x +ℤ (u .y *ℤ v .y +ℤ u .z *ℤ v .z)
 
 -- The points that a triangle must not have in front of it: the solid voxels and the corners of the whole cube.
 abbrev pub body : Kinds → List Point
-body k = map voxel-point (keep (solid k) (0 ∷ 1 ∷ 2 ∷ 3 ∷ 4 ∷ 5 ∷ 6 ∷ 7 ∷ [])) ++ map corner-point (corners k)
+body k = map voxel-point (keep (solid k) voxels) ++ map corner-point (corners k)
 
-abbrev pub behind : Point → Point → Point → Point → Bool
-behind p q r w = leZ (det (minus q p) (minus r p) (minus w p)) (pos 0)
+-- None of some points lies in front of a triangle: the determinant of q - p, r - p and w - p is at most 0 for each w.
+abbrev pub behind : Point → Point → Point → List Point → Bool
+behind p q r ws = let n = cross (minus q p) (minus r p) in every (λ w. leZ (dot n (minus w p)) (pos 0)) ws
 
 -- Two corners may bound a triangle: they are neighbours in the loop, or no face holds both.
 abbrev pub may-join : List (ℕ × ℕ) → ℕ → ℕ → Bool
@@ -62,7 +70,7 @@ allowed es w p q r =
     elim (may-join es p q) [
       | true ↦ elim (may-join es q r) [
         | true ↦ elim (may-join es p r) [
-          | true ↦ every (behind (corner-point p) (corner-point q) (corner-point r)) w
+          | true ↦ behind (corner-point p) (corner-point q) (corner-point r) w
           | false ↦ false
         ]
         | false ↦ false

@@ -3,7 +3,7 @@ use mathlib.Core.Bool.{Bool, true, false}
 use mathlib.Core.List.{List, [], _∷_, _++_, map, reverse}
 use Prim.Native.Nat.{ℕ}
 use Rattle.cube.specs.Lists.{gather}
-use Rattle.cube.specs.Cube.{Face, faces, Kinds, solid, link-of}
+use Rattle.cube.specs.Cube.{Face, faces, Kinds, solid}
 use Rattle.cube.specs.declared.pair.Connectedness.{Connectedness}
 use Rattle.cube.specs.declared.pair.Connectedness.the-variants.{Six, Eighteen, TwentySix}
 
@@ -56,8 +56,7 @@ module _ {L : Type 0} where
 -- The directed edges of the graph on one face of a cube, by the numbers of their links.
 abbrev pub graph-on : Connectedness → Kinds → Face → List (ℕ × ℕ)
 graph-on s k f =
-    round s (solid k (f .a)) (solid k (f .b)) (solid k (f .c)) (solid k (f .d))
-    (link-of (f .a) (f .b)) (link-of (f .b) (f .c)) (link-of (f .c) (f .d)) (link-of (f .d) (f .a))
+    round s (solid k (f .a)) (solid k (f .b)) (solid k (f .c)) (solid k (f .d)) (f .ab) (f .bc) (f .cd) (f .da)
 
 -- The graph of the cube: the edges on its six faces.
 abbrev pub graph : Connectedness → Kinds → List (ℕ × ℕ)

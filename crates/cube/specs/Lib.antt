@@ -7,3 +7,7 @@ pub mod Cutting
 pub mod Triangles
 pub mod Patches
 pub mod Rows
+pub mod Joined
+pub mod Laws
+pub mod Tubes
+pub mod Samples

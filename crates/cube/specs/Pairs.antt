@@ -28,6 +28,15 @@ swap S26H6 = S6H26
 swap S6H18 = S18H6
 swap S6H26 = S26H6
 
+-- The number by which a connectedness is known, and the two numbers of a pair.
+abbrev pub number : Connectedness → ℕ
+number Six = 6
+number Eighteen = 18
+number TwentySix = 26
+
+abbrev pub numbers : Pair → ℕ × ℕ
+numbers p = (number (of-solid p), number (of-hollow p))
+
 -- In how many coordinates two voxels of a cube differ.
 abbrev pub differ : Bool → ℕ
 differ true = 0

@@ -5,7 +5,7 @@ use Prim.Native.Nat.{ℕ, _+_, _-_}
 use lib.Dec.{eqb}
 use lib.ListN.{length}
 use Rattle.cube.specs.Lists.{gather, keep, some}
-use Rattle.cube.specs.Cube.{Kinds, solid, exchange, axis}
+use Rattle.cube.specs.Cube.{Kinds, solid, exchange, axis, voxels}
 use Rattle.cube.specs.Graph.{graph}
 use Rattle.cube.specs.Loops.{loops, loops-of}
 use Rattle.cube.specs.Cutting.{body, cut-loop, from-low, triangle}
@@ -25,7 +25,7 @@ cut-all s k =
 -- Just two voxels are solid, at opposite ends of the cube.
 abbrev pub opposite : Kinds → Bool
 opposite k =
-    elim (eqb (length (keep (solid k) (0 ∷ 1 ∷ 2 ∷ 3 ∷ 4 ∷ 5 ∷ 6 ∷ 7 ∷ []))) 2) [
+    elim (eqb (length (keep (solid k) voxels)) 2) [
       | true ↦ some (λ i. elim (solid k i) [ true ↦ solid k (7 - i) | false ↦ false ]) (0 ∷ 1 ∷ 2 ∷ 3 ∷ [])
       | false ↦ false
     ]

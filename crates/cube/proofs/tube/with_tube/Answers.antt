@@ -1,0 +1,11 @@
+use mathlib.Core.Path.{ap, _∙_}
+use lib.ListN.{take}
+use borrow.Author.Needs.{needs}
+use Rattle.cube.specs.Cube.{kinds}
+use Rattle.cube.proofs.Tubed.{tube-of}
+use Rattle.cube.proofs.tube.with_tube.Needs as need
+
+pub returns : need.returns
+returns c =
+    let made = tube-of (kinds (c .args .mask .0)) (search needs) (c .row-of-row .result .count) (c .row-of-row .result .places) (c .row-of-row .ensures) in
+    ap (take 6) (c .tube .ensures) ∙ made
