@@ -14,18 +14,13 @@ use Rattle.grid.specs.declared.axis.Axis.the-variants.{X, Y, Z}
 use Rattle.grid.specs.declared.link.Link.{Link}
 use Rattle.grid.specs.declared.sides.Sides.{Sides}
 use Rattle.grid.specs.declared.voxel.Voxel.{Voxel}
+use Rattle.grid.proofs.Same.{axis-same, voxel-same}
 use Rattle.grid.proofs.Numbering.{count-bound, place-below, place-same, link-below, link-same}
 
 -- what is said of an option, made weaker
 pub some-weaker : {X : Type 0} (o : Option X) {P P′ : Type 0} {Q Q′ : X → Type 0} → Cases o P Q → (P → P′) → ((x : X) → Q x → Q′ x) → Cases o P′ Q′
 some-weaker None c p q = p c
 some-weaker (Some x) c p q = q x c
-
--- voxels with the same coordinates are one
-pub voxel-same : (v w : Voxel) → (v .x ≡ w .x) × (v .y ≡ w .y) × (v .z ≡ w .z) → v ≡ w
-voxel-same v w e =
-    let at : ℕ → ℕ → ℕ → Voxel = λ a b c. record { x = a; y = b; z = c } in
-    ap (λ a. at a (v .y) (v .z)) (e .0) ∙ ap (λ b. at (w .x) b (v .z)) (e .1) ∙ ap (λ c. at (w .x) (w .y) c) (e .2)
 
 pub count-within : (s : Sides) → countOf s ≤ 16777216
 count-within s = count-bound (s .x) (s .y) (s .z) (s .fits .0 .1) (s .fits .1 .1) (s .fits .2 .1)
@@ -68,18 +63,6 @@ pub axis-below : (a : Axis) → axisNumber a < 3
 axis-below X = omega arith
 axis-below Y = omega arith
 axis-below Z = omega arith
-
--- axes with the same number are one
-pub axis-same : (a b : Axis) → axisNumber a ≡ axisNumber b → a ≡ b
-axis-same X X e = refl
-axis-same X Y e = absurd (omega arith)
-axis-same X Z e = absurd (omega arith)
-axis-same Y X e = absurd (omega arith)
-axis-same Y Y e = refl
-axis-same Y Z e = absurd (omega arith)
-axis-same Z X e = absurd (omega arith)
-axis-same Z Y e = absurd (omega arith)
-axis-same Z Z e = refl
 
 -- links of a scan with the same number are one
 pub link-unique : (s : Sides) (j k : Link) → Holds s (j .lower) → Holds s (k .lower) → linkNumberOf s j ≡ linkNumberOf s k → j ≡ k
