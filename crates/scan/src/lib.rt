@@ -12,6 +12,8 @@ mod refusal;
 mod scan;
 mod shape;
 mod spacing;
+#[cfg(test)]
+mod tests;
 
 pub use block::Block;
 pub use block::BlockMeasured;
