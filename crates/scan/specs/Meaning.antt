@@ -1,6 +1,7 @@
 -- What a scan means: its sides, and what it answers at each place. Assumes nothing.
 use mathlib.Core.Path.{_≡_}
 use mathlib.Core.Bool.{Bool, true, false, _&&_}
+use mathlib.Core.Logic.{_⊎_}
 use Prim.Native.Nat.{ℕ, _≤_}
 use lib.Dec.{ltb}
 use Rattle.std.specs.Results.{Cases}
@@ -31,6 +32,13 @@ Voxelwise a = Cases a (λ reading. reading ≤ 65534) (λ f. f .cause ≡ NoRead
 pub record Lawful (m : Meaning) : Type 0 where
   pub inside : (v : Voxel) → Holds (m .sides) v → Voxelwise (m .at v)
   pub outside : (v : Voxel) → (Holds (m .sides) v → ⊥) → m .at v ≡ Err (ownFault Outside v)
+
+-- What an answer tells of a place, whatever the scan: a reading of at most 65,534 at a voxel of the scan,
+-- a voxel of the scan that has no reading, or the scan's own fault at a place outside.
+abbrev pub Told : Sides → Voxel → Answer → Type 0
+Told s v a =
+    Cases a (λ reading. Holds s v × (reading ≤ 65534))
+    (λ f. (Holds s v × (f .cause ≡ NoReading)) ⊎ ((Holds s v → ⊥) × (f ≡ ownFault Outside v)))
 
 -- Whether sides hold a voxel, as a test.
 abbrev pub held : Sides → Voxel → Bool

@@ -32,7 +32,7 @@ pub struct Block {
 impl Block {
     // The block of these values; refused over a side, over the number of values, then over the spacing.
     pub fn new(sides: Lengths, spacing: Lengths, values: Vec<u16>) -> Result<Block, Refusal>
-        ensures { λ r. ⌜ Cases r (λ b. ShowsValues (blockMeans (b .sides) (vec-items (b .values))) sides (vec-items values) × SpacingIs (b .spacing .x) (b .spacing .y) (b .spacing .z) spacing) (λ e. Refused e (SidesFit sides × (vec-len values ≡ placeCount (sides .x) (sides .y) (sides .z))) (SpacingFits spacing) (Unit {0})) ⌝ }
+        ensures { λ r. ⌜ Cases r (λ b. ShowsValues (blockMeans (b .sides) (vec-items (b .values))) sides (vec-items values) × (b .values ≡ values) × SpacingIs (b .spacing .x) (b .spacing .y) (b .spacing .z) spacing) (λ e. Refused e (SidesFit sides × (vec-len values ≡ placeCount (sides .x) (sides .y) (sides .z))) (SpacingFits spacing) (Unit {0})) ⌝ }
     {
         let Some(sides) = Sides::new(sides.x, sides.y, sides.z) else {
             return Err(Refusal::Size);

@@ -23,7 +23,7 @@ pub struct Cutout<S> {
 impl<S: Scan> Cutout<S> {
     // The cut-out of the box at that corner, of any scan, by value or by reference.
     pub fn new(below: S, low: Voxel, lengths: Lengths) -> Cutout<S>
-        ensures kept { λ r. ⌜ r .below ≡ below ⌝ }
+        ensures kept { λ r. ⌜ (r .below ≡ below) × (r .low ≡ low) × (r .lengths ≡ lengths) ⌝ }
         ensures shows { λ r. ⌜ ShowsBox (cutMeans (S·Scan .means (r .below)) (r .low) (r .lengths)) (S·Scan .means below) low lengths (cutLow (S·Scan .means below .sides) low) ⌝ }
     {
         Cutout {

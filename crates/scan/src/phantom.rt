@@ -30,7 +30,7 @@ pub struct Phantom {
 impl Phantom {
     // The phantom of these shapes; refused over a side, then over the spacing, then over the shapes.
     pub fn new(sides: Lengths, spacing: Lengths, shapes: Vec<Shape>) -> Result<Phantom, Refusal>
-        ensures { λ r. ⌜ Cases r (λ p. ShowsShapes (phantomMeans (p .sides) (vec-items (p .shapes))) sides (vec-items shapes) × SpacingIs (p .spacing .x) (p .spacing .y) (p .spacing .z) spacing) (λ e. Refused e (SidesFit sides) (SpacingFits spacing) (ShapesFit (vec-items shapes))) ⌝ }
+        ensures { λ r. ⌜ Cases r (λ p. ShowsShapes (phantomMeans (p .sides) (vec-items (p .shapes))) sides (vec-items shapes) × (p .shapes ≡ shapes) × SpacingIs (p .spacing .x) (p .spacing .y) (p .spacing .z) spacing) (λ e. Refused e (SidesFit sides) (SpacingFits spacing) (ShapesFit (vec-items shapes))) ⌝ }
     {
         let Some(sides) = Sides::new(sides.x, sides.y, sides.z) else {
             return Err(Refusal::Size);

@@ -1,7 +1,7 @@
 // What every scan answers.
 ghost use mathlib.Core.Path.{_≡_};
 ghost use denote.Ref.{now};
-ghost use Rattle.scan.specs.Meaning.{Lawful, Meaning};
+ghost use Rattle.scan.specs.Meaning.{Lawful, Meaning, Told};
 use crate::fault::Fault;
 use grid::Sides;
 use grid::Voxel;
@@ -20,7 +20,8 @@ pub trait Scan {
 
     // The reading at a place, which may be any; a fault where the voxel has none or the place lies outside.
     fn read(&self, place: Voxel) -> Result<u16, Fault>
-        ensures { λ r. ⌜ r ≡ means (now (self .entry)) .at place ⌝ };
+        ensures answer { λ r. ⌜ r ≡ means (now (self .entry)) .at place ⌝ }
+        ensures told { λ r. ⌜ Told (means (now (self .entry)) .sides) place r ⌝ };
 }
 
 pub impl<'a, S: Scan> Scan for &'a S as RefScan {

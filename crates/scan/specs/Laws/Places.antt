@@ -3,13 +3,13 @@ use mathlib.Core.Path.{_≡_, refl, sym, ap, subst, _∙_}
 use mathlib.Core.Bool.{Bool, true, false, _&&_}
 use mathlib.Core.Logic.{_⊎_, inl, inr}
 use lib.Dec.{ltb}
-use Rattle.std.proofs.shelf.Tests.{lt-ltb, ltb-true, and-parts, and-from, cases-bool}
+use Rattle.std.proofs.shelf.Tests.{lt-ltb, ltb-true, and-parts, and-from, cases-bool, both-ways}
 use Rattle.std.specs.declared.result.Result.the-variants.{Ok, Err}
 use Rattle.grid.specs.Voxels.{Holds}
 use Rattle.grid.specs.declared.sides.Sides.{Sides}
 use Rattle.grid.specs.declared.voxel.Voxel.{Voxel}
 use Rattle.scan.specs.Faults.{ownFault}
-use Rattle.scan.specs.Meaning.{Answer, Voxelwise, Lawful, held, orOutside, scanOf}
+use Rattle.scan.specs.Meaning.{Answer, Meaning, Told, Voxelwise, Lawful, held, orOutside, scanOf}
 use Rattle.scan.specs.declared.fault.Cause.the-variants.{NoReading, Outside}
 
 pub held-true : (s : Sides) (v : Voxel) → held s v ≡ true → Holds s v
@@ -42,3 +42,18 @@ module _ (s : Sides) (answers : Voxel → Answer) where
     inside = λ v h. subst Voxelwise (sym (scan-inside v h)) (each v h);
     outside = scan-outside;
   }
+
+-- what a lawful scan answers tells where the place lies
+pub lawful-told : (m : Meaning) → Lawful m → (v : Voxel) → Told (m .sides) v (m .at v)
+lawful-told m law v =
+    elim (cases-bool (held (m .sides) v)) [
+      | inl e ↦ at-voxel (m .sides) v (m .at v) (held-true (m .sides) v e) (law .inside v (held-true (m .sides) v e))
+      | inr e ↦ subst (Told (m .sides) v) (sym (law .outside v (off e))) (inr (off e, refl))
+    ]
+  where
+    at-voxel : (s : Sides) (w : Voxel) (a : Answer) → Holds s w → Voxelwise a → Told s w a
+    at-voxel s w (Ok reading) h l = (h, l)
+    at-voxel s w (Err f) h l = inl (h, l)
+
+    off : held (m .sides) v ≡ false → Holds (m .sides) v → ⊥
+    off e h = both-ways (held (m .sides) v) e (true-held (m .sides) v h)

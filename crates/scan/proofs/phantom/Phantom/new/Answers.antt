@@ -1,4 +1,4 @@
-use mathlib.Core.Path.{sym, ap, _∙_}
+use mathlib.Core.Path.{refl, sym, ap, _∙_}
 use Rattle.std.proofs.shelf.Tests.{both-ways}
 use Rattle.std.specs.Of.Vec.{vec-items}
 use Rattle.scan.specs.Phantoms.{shapesFit}
@@ -17,4 +17,4 @@ returns-then-not-all-fit c =
 pub returns : need.returns
 returns c =
     let test = ap shapesFit (sym (c .as-slice .ensures .value)) ∙ sym (c .if-not-all-fit .ensures tt) in
-    (shows-shapes (c .in-Some .sides) (c .args .sides) (vec-items (c .args .shapes)) (c .in-Some .ensures tt) test, c .in-Some-new .ensures tt)
+    (shows-shapes (c .in-Some .sides) (c .args .sides) (vec-items (c .args .shapes)) (c .in-Some .ensures tt) test, refl, c .in-Some-new .ensures tt)
