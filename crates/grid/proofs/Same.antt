@@ -1,5 +1,5 @@
 -- Sides, voxels and axes are the same where what they are made of is. Assumes nothing.
-use mathlib.Core.Path.{_≡_, refl, ap, subst, _∙_}
+use mathlib.Core.Path.{_≡_, refl, ap, _∙_}
 use mathlib.Core.HLevel.{×-prop, isProp→PathP}
 use Prim.Native.Nat.{ℕ}
 use native.Mathlib.Bridge.{le-prop}

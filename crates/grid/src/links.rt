@@ -1,5 +1,4 @@
 // The links of a scan and their numbers.
-ghost use mathlib.Core.Path.{_≡_};
 ghost use Rattle.grid.specs.Links.{LinkNumbered, Links, NoLink};
 ghost use Rattle.std.specs.Options.{Cases};
 ghost use Rattle.std.specs.Orderings.{When};

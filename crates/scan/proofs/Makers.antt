@@ -4,7 +4,8 @@ use mathlib.Core.Bool.{true}
 use mathlib.Core.List.{List}
 use native.Mathlib.Omega.{arith}
 use Rattle.grid.specs.declared.sides.Sides.{Sides}
-use Rattle.scan.specs.Making.{SidesAre, SidesFit, SpacingFits, SpacingIs}
+use Rattle.scan.specs.Making.{SidesAre, SidesFit, SpacingFits}
+use Rattle.scan.specs.Spacings.{SpacingIs}
 use Rattle.scan.specs.Phantoms.{ShowsShapes, phantomMeans, shapesFit}
 use Rattle.scan.specs.Laws.Painting.{first-counts, shapes-true}
 use Rattle.scan.specs.Laws.Places.{scan-inside, scan-outside}
@@ -15,7 +16,7 @@ use Rattle.scan.specs.declared.spacing.Spacing.{Spacing}
 pub sides-fit : (s : Sides) (l : Lengths) → SidesAre s l → SidesFit l
 sides-fit s l e = ((omega arith, omega arith), (omega arith, omega arith), (omega arith, omega arith))
 
-pub spacing-fits : (s : Spacing) (l : Lengths) → SpacingIs (s .x) (s .y) (s .z) l → SpacingFits l
+pub spacing-fits : (s : Spacing) (l : Lengths) → SpacingIs s l → SpacingFits l
 spacing-fits s l e = ((omega arith, omega arith), (omega arith, omega arith), (omega arith, omega arith))
 
 pub shows-shapes : (s : Sides) (l : Lengths) (shapes : List Shape) → SidesAre s l → shapesFit shapes ≡ true → ShowsShapes (phantomMeans s shapes) l shapes

@@ -1,6 +1,7 @@
 pub mod Faults
 pub mod Meaning
 pub mod Making
+pub mod Spacings
 pub mod Blocks
 pub mod Phantoms
 pub mod Cuts

@@ -29,10 +29,6 @@ SpacingFits l = Step (l .x) × Step (l .y) × Step (l .z)
 abbrev pub SidesAre : Sides → Lengths → Type 0
 SidesAre s l = (s .x ≡ l .x) × (s .y ≡ l .y) × (s .z ≡ l .z)
 
--- The spacing along x, y and z is these lengths.
-abbrev pub SpacingIs : (x y z : ℕ) → Lengths → Type 0
-SpacingIs x y z l = (x ≡ l .x) × (y ≡ l .y) × (z ≡ l .z)
-
 -- The first refusal that applies, where the size is right, the spacing and the shapes.
 abbrev pub Refused : Refusal → (size spacing shapes : Type 0) → Type 0
 Refused Size size spacing shapes = size → ⊥

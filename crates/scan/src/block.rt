@@ -3,10 +3,11 @@ ghost use mathlib.Core.Path.{_≡_};
 ghost use Rattle.grid.specs.Numbers.{placeCount};
 ghost use Rattle.grid.specs.Voxels.{countOf};
 ghost use Rattle.scan.specs.Blocks.{ShowsValues, blockMeans};
-ghost use Rattle.scan.specs.Making.{Refused, SidesFit, SpacingFits, SpacingIs};
+ghost use Rattle.scan.specs.Making.{Refused, SidesFit, SpacingFits};
+ghost use Rattle.scan.specs.Spacings.{SpacingIs};
 ghost use Rattle.scan.specs.Laws.Lawful.{block-lawful};
 ghost use Rattle.std.specs.Of.Vec.{vec-items, vec-len};
-ghost use Rattle.std.specs.Results.{Cases};
+ghost use Rattle.std.specs.Vec.{made, refused};
 use crate::fault::Cause;
 use crate::fault::Fault;
 use crate::lengths::Lengths;
@@ -32,7 +33,9 @@ pub struct Block {
 impl Block {
     // The block of these values; refused over a side, over the number of values, then over the spacing.
     pub fn new(sides: Lengths, spacing: Lengths, values: Vec<u16>) -> Result<Block, Refusal>
-        ensures { λ r. ⌜ Cases r (λ b. ShowsValues (blockMeans (b .sides) (vec-items (b .values))) sides (vec-items values) × (b .values ≡ values) × SpacingIs (b .spacing .x) (b .spacing .y) (b .spacing .z) spacing) (λ e. Refused e (SidesFit sides × (vec-len values ≡ placeCount (sides .x) (sides .y) (sides .z))) (SpacingFits spacing) (Unit {0})) ⌝ }
+        ensures shows { λ r. ⌜ made r (λ b. ShowsValues (blockMeans (b .sides) (vec-items (b .values))) sides (vec-items values)) ⌝ }
+        ensures kept { λ r. ⌜ made r (λ b. (b .values ≡ values) × SpacingIs (b .spacing) spacing) ⌝ }
+        ensures refusal { λ r. ⌜ refused r (λ e. Refused e (SidesFit sides × (vec-len values ≡ placeCount (sides .x) (sides .y) (sides .z))) (SpacingFits spacing) (Unit {0})) ⌝ }
     {
         let Some(sides) = Sides::new(sides.x, sides.y, sides.z) else {
             return Err(Refusal::Size);

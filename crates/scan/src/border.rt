@@ -3,12 +3,18 @@ ghost use mathlib.Core.Path.{_≡_};
 ghost use Rattle.scan.specs.Borders.{BorderRead, LacksAt, LowestLacking, ReadAt};
 ghost use Rattle.std.specs.Options.{Cases};
 use crate::fault::Fault;
+use crate::fault::FaultDebug;
+use crate::fault::FaultEq;
+use crate::fault::FaultPartialEq;
 use crate::scan::Scan;
 use grid::Sides;
 use grid::Voxel;
+use grid::VoxelDebug;
+use grid::VoxelEq;
+use grid::VoxelPartialEq;
 
 // A voxel that lacks a reading, and the fault that it answers with.
-#[derive(Clone, Copy)]
+#[derive(Clone, Copy, PartialEq, Eq, Debug)]
 pub struct Lacking {
     pub voxel: Voxel,
     pub fault: Fault,

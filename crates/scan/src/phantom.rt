@@ -1,11 +1,12 @@
 // A scan that is painted with shapes.
 ghost use mathlib.Core.Path.{_≡_};
 ghost use mathlib.Core.Bool.{true};
-ghost use Rattle.scan.specs.Making.{Refused, SidesFit, SpacingFits, SpacingIs};
+ghost use Rattle.scan.specs.Making.{Refused, SidesFit, SpacingFits};
+ghost use Rattle.scan.specs.Spacings.{SpacingIs};
 ghost use Rattle.scan.specs.Phantoms.{ShapesFit, ShowsShapes, phantomMeans, shapesFit};
 ghost use Rattle.scan.specs.Laws.Lawful.{phantom-lawful};
 ghost use Rattle.std.specs.Of.Vec.{vec-items};
-ghost use Rattle.std.specs.Results.{Cases};
+ghost use Rattle.std.specs.Vec.{made, refused};
 use crate::fault::Cause;
 use crate::fault::Fault;
 use crate::lengths::Lengths;
@@ -30,7 +31,9 @@ pub struct Phantom {
 impl Phantom {
     // The phantom of these shapes; refused over a side, then over the spacing, then over the shapes.
     pub fn new(sides: Lengths, spacing: Lengths, shapes: Vec<Shape>) -> Result<Phantom, Refusal>
-        ensures { λ r. ⌜ Cases r (λ p. ShowsShapes (phantomMeans (p .sides) (vec-items (p .shapes))) sides (vec-items shapes) × (p .shapes ≡ shapes) × SpacingIs (p .spacing .x) (p .spacing .y) (p .spacing .z) spacing) (λ e. Refused e (SidesFit sides) (SpacingFits spacing) (ShapesFit (vec-items shapes))) ⌝ }
+        ensures shows { λ r. ⌜ made r (λ p. ShowsShapes (phantomMeans (p .sides) (vec-items (p .shapes))) sides (vec-items shapes)) ⌝ }
+        ensures kept { λ r. ⌜ made r (λ p. (p .shapes ≡ shapes) × SpacingIs (p .spacing) spacing) ⌝ }
+        ensures refusal { λ r. ⌜ refused r (λ e. Refused e (SidesFit sides) (SpacingFits spacing) (ShapesFit (vec-items shapes))) ⌝ }
     {
         let Some(sides) = Sides::new(sides.x, sides.y, sides.z) else {
             return Err(Refusal::Size);

@@ -1,21 +1,20 @@
 -- Blocks, phantoms and cut-outs keep what every scan owes. Assumes nothing.
-use mathlib.Core.Path.{_≡_, refl, sym, ap, subst, _∙_}
-use mathlib.Core.Bool.{Bool, true, false}
+use mathlib.Core.Path.{_≡_, refl, sym, subst}
+use mathlib.Core.Bool.{true}
 use mathlib.Core.List.{List}
-use mathlib.Core.Logic.{_⊎_, inl, inr}
-use Prim.Native.Nat.{ℕ, _≤_, _<_}
+use mathlib.Core.Logic.{inl, inr}
+use Prim.Native.Nat.{ℕ}
 use native.Mathlib.Omega.{arith}
 use lib.Dec.{ltb}
 use lib.ListN.{getD}
 use Rattle.std.proofs.shelf.Tests.{ltb-true, cases-bool}
-use Rattle.std.specs.Results.{Cases}
 use Rattle.std.specs.declared.result.Result.the-variants.{Ok, Err}
-use Rattle.grid.specs.Voxels.{Holds, numberOf}
+use Rattle.grid.specs.Voxels.{numberOf}
 use Rattle.grid.specs.declared.sides.Sides.{Sides}
 use Rattle.grid.specs.declared.voxel.Voxel.{Voxel}
-use Rattle.scan.specs.Meaning.{Answer, Meaning, Voxelwise, Lawful, scanOf}
+use Rattle.scan.specs.Meaning.{Answer, Meaning, Voxelwise, Lawful}
 use Rattle.scan.specs.Blocks.{blockMeans, orLacking}
-use Rattle.scan.specs.Phantoms.{phantomMeans, phantomReads, shapesFit}
+use Rattle.scan.specs.Phantoms.{phantomMeans, shapesFit}
 use Rattle.scan.specs.Cuts.{cutMeans, cutSides, cutLow, shifted, raised}
 use Rattle.scan.specs.declared.lengths.Lengths.{Lengths}
 use Rattle.scan.specs.declared.shape.Shape.{Shape}

@@ -1,7 +1,7 @@
 -- What a scan answers inside and outside its sides. Assumes nothing.
-use mathlib.Core.Path.{_≡_, refl, sym, ap, subst, _∙_}
-use mathlib.Core.Bool.{Bool, true, false, _&&_}
-use mathlib.Core.Logic.{_⊎_, inl, inr}
+use mathlib.Core.Path.{_≡_, refl, sym, ap, subst}
+use mathlib.Core.Bool.{true, false, _&&_}
+use mathlib.Core.Logic.{inl, inr}
 use lib.Dec.{ltb}
 use Rattle.std.proofs.shelf.Tests.{lt-ltb, ltb-true, and-parts, and-from, cases-bool, both-ways}
 use Rattle.std.specs.declared.result.Result.the-variants.{Ok, Err}
@@ -10,7 +10,7 @@ use Rattle.grid.specs.declared.sides.Sides.{Sides}
 use Rattle.grid.specs.declared.voxel.Voxel.{Voxel}
 use Rattle.scan.specs.Faults.{ownFault}
 use Rattle.scan.specs.Meaning.{Answer, Meaning, Told, Voxelwise, Lawful, held, orOutside, scanOf}
-use Rattle.scan.specs.declared.fault.Cause.the-variants.{NoReading, Outside}
+use Rattle.scan.specs.declared.fault.Cause.the-variants.{Outside}
 
 pub held-true : (s : Sides) (v : Voxel) → held s v ≡ true → Holds s v
 held-true s v e =

@@ -8,13 +8,20 @@ use Rattle.scan.proofs.phantom.Phantom.new.Needs as need
 
 pub returns-then-not-all-fit : need.returns-then-not-all-fit
 returns-then-not-all-fit c =
-    let test = ap shapesFit (sym (c .as-slice .ensures .value)) ∙ sym (c .if-not-all-fit .ensures tt) in (
-      sides-fit (c .in-Some .sides) (c .args .sides) (c .in-Some .ensures tt),
-      spacing-fits (c .in-Some-new .spacing) (c .args .spacing) (c .in-Some-new .ensures tt),
-      λ fit. both-ways (shapesFit (vec-items (c .args .shapes))) test (true-shapes (vec-items (c .args .shapes)) fit),
-    )
+    let test = ap shapesFit (sym (c .as-slice .ensures .value)) ∙ sym (c .if-not-all-fit .ensures tt) in
+    let sides = sides-fit (c .in-Some .sides) (c .args .sides) (c .in-Some .ensures tt) in
+    let spacing = spacing-fits (c .in-Some-new .spacing) (c .args .spacing) (c .in-Some-new .ensures tt) in
+    record {
+      shows = tt;
+      kept = tt;
+      refusal = (sides, spacing, λ fit. both-ways (shapesFit (vec-items (c .args .shapes))) test (true-shapes (vec-items (c .args .shapes)) fit));
+    }
 
 pub returns : need.returns
 returns c =
     let test = ap shapesFit (sym (c .as-slice .ensures .value)) ∙ sym (c .if-not-all-fit .ensures tt) in
-    (shows-shapes (c .in-Some .sides) (c .args .sides) (vec-items (c .args .shapes)) (c .in-Some .ensures tt) test, refl, c .in-Some-new .ensures tt)
+    record {
+      shows = shows-shapes (c .in-Some .sides) (c .args .sides) (vec-items (c .args .shapes)) (c .in-Some .ensures tt) test;
+      kept = (refl, c .in-Some-new .ensures tt);
+      refusal = tt;
+    }
