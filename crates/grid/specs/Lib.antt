@@ -1,0 +1,4 @@
+pub mod Numbers
+pub mod Voxels
+pub mod Links
+pub mod Cubes

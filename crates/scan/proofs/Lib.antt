@@ -1,0 +1,2 @@
+mod Makers
+mod Rims
