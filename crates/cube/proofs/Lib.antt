@@ -11,3 +11,7 @@ pub mod Bits
 pub mod Six
 pub mod Tubed
 pub mod Worked
+pub mod Led
+pub mod Trails
+pub mod Found
+pub mod Marks

@@ -11,3 +11,5 @@ pub mod Joined
 pub mod Laws
 pub mod Tubes
 pub mod Samples
+pub mod Everywhere
+pub mod Successors
