@@ -11,7 +11,3 @@ pub mod Bits
 pub mod Six
 pub mod Tubed
 pub mod Worked
-pub mod Led
-pub mod Trails
-pub mod Found
-pub mod Marks

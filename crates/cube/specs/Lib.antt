@@ -12,4 +12,3 @@ pub mod Laws
 pub mod Tubes
 pub mod Samples
 pub mod Everywhere
-pub mod Successors

@@ -1,5 +1,0 @@
-use borrow.Author.Needs.{needs}
-use Rattle.cube.proofs.trace.successor.Needs as need
-
-pub follow-requires : need.follow-requires
-follow-requires c κs = record { tables = tt; link = c .pre }
