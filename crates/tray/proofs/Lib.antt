@@ -1,0 +1,4 @@
+pub mod Alike
+pub mod Decimals
+pub mod Line
+pub mod Text

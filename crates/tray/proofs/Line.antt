@@ -1,0 +1,2 @@
+-- The line of a triangle. Assumes nothing.
+use Prim.Native.Nat.{ℕ}
