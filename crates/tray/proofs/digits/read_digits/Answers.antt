@@ -1,0 +1,44 @@
+use mathlib.Core.Path.{_≡_, refl, sym, ap, subst, _∙_}
+use mathlib.Core.Logic.{⊎-elim}
+use Prim.Native.Nat.{_<_, _≤_}
+use native.Mathlib.Omega.{arith}
+use lib.ListN.{length, getD}
+use Rattle.std.proofs.shelf.Lists.{take-all}
+use Rattle.tray.specs.Decimal.{digits}
+use Rattle.tray.proofs.Decimals.{length-digits, digit-at, below-more, below-eight, below-seven, read-more}
+use Rattle.tray.proofs.digits.read_digits.Needs as need
+
+pub returns-then-bytes-ne8 : need.returns-then-bytes-ne8
+returns-then-bytes-ne8 c = λ n small e. c .if-bytes-ne8 .taken (ap length e ∙ length-digits 8 n)
+
+pub loop-byte-holds : need.loop-byte-holds
+unfolding digits
+loop-byte-holds c = (omega arith, refl)
+
+pub returns-then-byte-lt48 : need.returns-then-byte-lt48
+returns-then-byte-lt48 c = λ n small e.
+    let i = c .loop-byte .byte-index in
+    let within : i < 8 = omega arith in
+    let same = ap (λ l. getD l i 0) e in
+    let digit = digit-at 8 n i within in
+    ⊎-elim (λ low. omega (arith, same, digit, low)) (λ high. omega (arith, same, digit, high)) (c .then-byte-lt48 .either)
+
+pub mul-number : need.mul-number
+mul-number c = record { fits = omega (arith, below-seven (c .loop-byte .byte-index) (c .loop-byte .number) (omega arith) (c .loop-byte .inv .0)) }
+
+pub add-number : need.add-number
+add-number c = record { fits = omega (arith, below-seven (c .loop-byte .byte-index) (c .loop-byte .number) (omega arith) (c .loop-byte .inv .0)) }
+
+pub loop-byte-again : need.loop-byte-again
+loop-byte-again c = (
+  below-more (c .loop-byte .byte-index) (c .loop-byte .number) _ (c .loop-byte .inv .0) (omega arith),
+  read-more (c .args .bytes .now) (c .loop-byte .byte-index) (c .loop-byte .number) (c .loop-byte-test .taken) (c .if-byte-lt48 .left) (c .if-byte-gt57 .left) (c .loop-byte .inv .1),
+)
+
+pub returns : need.returns
+returns c =
+    let i = c .loop-byte .byte-index in
+    let end : i ≡ 8 = omega arith in (
+      below-eight i (c .loop-byte .number) (omega arith) (c .loop-byte .inv .0),
+      sym (take-all i (c .args .bytes .now) (c .loop-byte-test .left)) ∙ c .loop-byte .inv .1 ∙ ap (λ k. digits k (c .loop-byte .number)) end,
+    )
