@@ -1,4 +1,5 @@
 pub mod Alike
 pub mod Decimals
-pub mod Line
-pub mod Text
+pub mod LineLaws
+pub mod LineReads
+pub mod LineWrites

@@ -1,5 +1,5 @@
 -- The line of a triangle: three link numbers of eight digits, parted by commas, and a line feed. Assumes nothing.
-use Prim.Native.Nat.{ℕ}
+use Prim.Native.Nat.{ℕ, _+_, _*_}
 use mathlib.Core.Path.{_≡_}
 use mathlib.Core.List.{List, [], _∷_, _++_, List-discrete}
 use native.Mathlib.Decide.{ℕ-discrete}
@@ -42,3 +42,7 @@ confirmed bs (Some t) = kept t (List-discrete ℕ-discrete bs (lineOf t))
 -- The triangle whose line these bytes are, if there is one: only the triangle of the three numbers that they spell can be it.
 unfoldable pub spelled : List ℕ → Option Triangle
 spelled bs = confirmed bs (triangleWith (numberAt 0 bs) (numberAt 9 bs) (numberAt 18 bs))
+
+-- The bytes with the line of a triangle at place n, from byte 27 n on, and every other byte as it was.
+abbrev pub withLine : List ℕ → ℕ → Triangle → List ℕ
+withLine bs n t = take (27 * n) bs ++ (lineOf t ++ drop (27 * n + 27) bs)

@@ -1,8 +1,13 @@
 // Triangles of a surface, the trays that hold them, and their text.
 mod digits;
+mod line;
+mod tray;
 mod triangle;
 
 pub use digits::eight_digits;
 pub use digits::read_digits;
+pub use line::read_line;
+pub use line::write_line_at;
+pub use tray::Full;
 pub use triangle::Triangle;
 pub use triangle::making::TriangleRefusal;

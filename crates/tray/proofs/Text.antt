@@ -1,2 +1,0 @@
--- The line of a triangle. Assumes nothing.
-use Prim.Native.Nat.{ℕ}
