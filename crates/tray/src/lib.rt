@@ -1,6 +1,7 @@
 // Triangles of a surface, the trays that hold them, and their text.
 mod digits;
 mod line;
+mod record_tray;
 mod tray;
 mod triangle;
 
@@ -8,6 +9,9 @@ pub use digits::eight_digits;
 pub use digits::read_digits;
 pub use line::read_line;
 pub use line::write_line_at;
+pub use record_tray::RecordTray;
+pub use record_tray::calls::TrayOfRecords;
 pub use tray::Full;
+pub use tray::Tray;
 pub use triangle::Triangle;
 pub use triangle::making::TriangleRefusal;

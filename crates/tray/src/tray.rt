@@ -1,5 +1,39 @@
-// What a tray is: a holder of triangles with a fixed number of places, each free or in use.
+// What a tray is: a holder of triangles, with places that are in use or free.
+ghost use mathlib.Core.Path.{_≡_};
+ghost use lib.ListN.{length};
+ghost use Rattle.std.specs.shelf.Maps.{nth as itemAt};
+ghost use Rattle.tray.specs.Holding.{Held, Lawful, Put, emptied};
+use crate::triangle::Triangle;
 
-// No place is free.
+// The answer of a tray with no free place.
 #[derive(Clone, Copy, PartialEq, Eq, Debug)]
 pub struct Full;
+
+// A holder of triangles in the order in which they came. Its meaning is the list that it holds and its number of free places.
+pub trait Tray {
+    // The list, and the free places.
+    ghost holds: { Self → Held };
+
+    // The places in use and the free ones together fit a machine word.
+    ghost lawful: { Lawful holds };
+
+    // How many places are free.
+    fn free(&self) -> usize
+        ensures { λ r. ⌜ r ≡ holds (now (self .entry)) .free ⌝ };
+
+    // How many triangles it holds.
+    fn held(&self) -> usize
+        ensures { λ r. ⌜ r ≡ length (holds (now (self .entry)) .list) ⌝ };
+
+    // The n-th triangle from 0; none where n is not below the number held.
+    fn nth(&self, n: usize) -> Option<Triangle>
+        ensures { λ r. ⌜ r ≡ itemAt (holds (now (self .entry)) .list) n ⌝ };
+
+    // Puts a triangle at the end, into a free place; turned away, with no change, only where no place is free.
+    fn put(&mut self, triangle: Triangle) -> Result<(), Full>
+        ensures { λ r. ⌜ Put (holds (now (self .entry))) triangle r (holds (now (self .exit))) ⌝ };
+
+    // Makes the list empty; its places are free again, besides those that were.
+    fn empty(&mut self)
+        ensures { λ _. ⌜ holds (now (self .exit)) ≡ emptied (holds (now (self .entry))) ⌝ };
+}

@@ -1,0 +1,35 @@
+-- What a tray means, and what putting in and emptying make of it. Assumes nothing.
+use Prim.Native.Nat.{ℕ, _+_, _-_, _^_, _<_}
+use mathlib.Core.Path.{_≡_}
+use mathlib.Core.List.{List, [], _∷_, _++_}
+use lib.ListN.{length}
+use Rattle.std.specs.declared.result.Result.{Result}
+use Rattle.std.specs.declared.result.Result.the-variants.{Ok, Err}
+use Rattle.tray.specs.declared.tray.Full.{Full}
+use Rattle.tray.specs.declared.triangle.Triangle.{Triangle}
+
+-- The meaning of a tray: the list that it holds, and its number of free places.
+pub record Held : Type 0 where
+  pub list : List Triangle
+  pub free : ℕ
+
+-- All places of a tray, in use or free.
+abbrev pub places : Held → ℕ
+places h = length (h .list) + h .free
+
+-- A triangle goes to the end, and takes one free place.
+abbrev pub added : Held → Triangle → Held
+added h t = record { list = h .list ++ (t ∷ []); free = h .free - 1 }
+
+-- The list becomes empty, and its places are free besides those that were.
+abbrev pub emptied : Held → Held
+emptied h = record { list = []; free = h .free + length (h .list) }
+
+-- A triangle is put in where a place is free, and only where none is it is turned away, with no change.
+abbrev pub Put : Held → Triangle → Result (Unit {0}) Full → Held → Type 0
+Put before t (Ok done) after = (0 < before .free) × (after ≡ added before t)
+Put before t (Err full) after = (before .free ≡ 0) × (after ≡ before)
+
+-- What every tray owes besides: its places fit a machine word.
+pub record Lawful {S : Type 0} (holds : S → Held) : Type 0 where
+  pub fits : (s : S) → places (holds s) < 2 ^ 64
