@@ -1,3 +1,4 @@
+pub mod Buffers
 pub mod Corners
 pub mod Decimal
 pub mod Holding

@@ -1,8 +1,11 @@
 -- The text of a list of triangles: their lines, one after the other. Assumes nothing.
-use Prim.Native.Nat.{ℕ, zero, suc, _+_, _<_}
+use Prim.Native.Nat.{ℕ, zero, suc, _+_, _≤_, _<_}
 use mathlib.Core.Path.{_≡_}
 use mathlib.Core.List.{List, [], _∷_, _++_}
-use lib.ListN.{length, take, drop}
+use native.Mathlib.Omega.{arith}
+use lib.ListN.{length, take, drop, length-append}
+use Rattle.std.specs.declared.option.Option.{Option}
+use Rattle.std.specs.declared.option.Option.the-variants.{Some, None}
 use Rattle.std.specs.Vec.{listOf}
 use Rattle.std.specs.Joined.{joined}
 use Rattle.tray.specs.declared.triangle.Triangle.{Triangle}
@@ -15,6 +18,17 @@ textOf ts = joined lineOf ts
 unfoldable pub spelledBy : ℕ → List ℕ → List Triangle
 spelledBy zero bs = []
 spelledBy (suc n) bs = listOf (spelled (take 27 bs)) ++ spelledBy n (drop 27 bs)
+
+few : {X : Type 0} (o : Option X) → length (listOf o) ≤ 1
+few None = omega arith
+few (Some x) = omega arith
+
+-- They are no more than the lines.
+pub spelled-few : (n : ℕ) (bs : List ℕ) → length (spelledBy n bs) ≤ n
+unfolding spelledBy
+spelled-few zero bs = omega arith
+spelled-few (suc n) bs =
+    omega (arith, length-append (listOf (spelled (take 27 bs))) (spelledBy n (drop 27 bs)), few (spelled (take 27 bs)), spelled-few n (drop 27 bs))
 
 -- A text goes out of form at a line, counted from 1: the lines before it are the text of a list, and what follows, which is not
 -- empty, begins with the line of no triangle.

@@ -2,6 +2,7 @@
 mod digits;
 mod line;
 mod record_tray;
+mod text_tray;
 mod tray;
 mod triangle;
 
@@ -11,6 +12,8 @@ pub use line::read_line;
 pub use line::write_line_at;
 pub use record_tray::RecordTray;
 pub use record_tray::calls::TrayOfRecords;
+pub use text_tray::TextTray;
+pub use text_tray::calls::TrayOfText;
 pub use tray::Full;
 pub use tray::Tray;
 pub use triangle::Triangle;

@@ -1,0 +1,75 @@
+use Prim.Native.Nat.{ℕ, _+_, _-_, _*_, _/_, _≤_, _<_}
+use mathlib.Core.List.{List, [], _∷_, _++_}
+use mathlib.Core.Path.{_≡_, sym, ap, subst, _∙_}
+use lib.ListN.{length, take, drop}
+use native.Mathlib.Omega.{arith}
+use Rattle.std.specs.Changed.{refilled}
+use Rattle.std.specs.declared.alloc.Global.{Global}
+use Rattle.std.specs.declared.vec.Vec.{Vec}
+use Rattle.std.proofs.shelf.Lists.{refilled-is}
+use Rattle.std.proofs.shelf.Results.{cases-from-err}
+use Rattle.tray.specs.declared.triangle.Triangle.{Triangle}
+use Rattle.tray.specs.Lines.{withLine}
+use Rattle.tray.specs.Texts.{spelledBy, textOf}
+use Rattle.tray.proofs.BufferLaws.{Spells, length-spelled, spelled-next, spells-next, length-withLine}
+use Rattle.tray.proofs.Trays.{turned-away}
+use Rattle.tray.proofs.text_tray.calls.TrayOfText.put.Needs as need
+
+-- What the buffer holds once the next line is written.
+next-items : (v : Vec ℕ Global) (ws : List ℕ) (n : ℕ) (t : Triangle) → 27 * n + 27 ≤ length (v .items) → ws ≡ withLine (v .items) n t → refilled v ws .items ≡ withLine (v .items) n t
+next-items v ws n t room e = refilled-is v ws (ap length e ∙ length-withLine (v .items) n t room ∙ sym (v .ok .0)) ∙ e
+
+pub ghost-self : need.ghost-self
+ghost-self c =
+    let s = c .args .self .now in
+    let v = s .bytes in
+    let ws = c .write-line-at .last .bytes in
+    let same : ws ≡ v .items = c .in-Break-write-line-at .ensures tt .1 ∙ c .as-mut-slice .ensures .value in
+    let items = refilled-is v ws (ap length same ∙ sym (v .ok .0)) ∙ same in
+    subst (λ l. (27 * s .held ≤ length l) × ((textOf (spelledBy (s .held) l) ≡ take (27 * s .held) l) × Unit {0})) (sym items) (s .within, (s .text, tt))
+
+pub returns-in-Break-write-line-at : need.returns-in-Break-write-line-at
+returns-in-Break-write-line-at c =
+    let s = c .args .self .now in
+    let v = s .bytes in
+    let ws = c .write-line-at .last .bytes in
+    let told = c .in-Break-write-line-at .ensures tt in
+    let value = c .as-mut-slice .ensures .value in
+    let same : ws ≡ v .items = told .1 ∙ value in
+    let items = refilled-is v ws (ap length same ∙ sym (v .ok .0)) ∙ same in
+    let none : v .len / 27 - s .held ≡ 0 = omega (arith, told .0, ap length value, v .ok .0) in
+    let error = c .from-residual .ensures .0 in
+    record {
+      put = turned-away _ _ (c .args .triangle) _ error none (λ i. record { list = spelledBy (s .held) (items i); free = v .len / 27 - s .held });
+      bytes = cases-from-err _ _ _ error (λ _. items);
+    }
+
+pub ghost-self-2 : need.ghost-self-2
+ghost-self-2 c =
+    let s = c .args .self .now in
+    let v = s .bytes in
+    let n = s .held in
+    let told = c .in-Continue-write-line-at .ensures tt in
+    let value = c .as-mut-slice .ensures .value in
+    let room : 27 * n + 27 ≤ length (v .items) = omega (arith, told .0, ap length value) in
+    let items = next-items v (c .write-line-at .last .bytes) n (c .args .triangle) room (told .1 ∙ ap (λ l. withLine l n (c .args .triangle)) value) in
+    let next = spells-next (v .items) n (c .args .triangle) (record { within = s .within; text = s .text }) room in
+    subst (λ l. (27 * (n + 1) ≤ length l) × ((textOf (spelledBy (n + 1) l) ≡ take (27 * (n + 1)) l) × Unit {0})) (sym items) (next .within, (next .text, tt))
+
+pub returns : need.returns
+returns c =
+    let s = c .args .self .now in
+    let v = s .bytes in
+    let n = s .held in
+    let t = c .args .triangle in
+    let spells : Spells (v .items) n = record { within = s .within; text = s .text } in
+    let told = c .in-Continue-write-line-at .ensures tt in
+    let value = c .as-mut-slice .ensures .value in
+    let room : 27 * n + 27 ≤ length (v .items) = omega (arith, told .0, ap length value) in
+    let items = next-items v (c .write-line-at .last .bytes) n t room (told .1 ∙ ap (λ l. withLine l n t) value) in
+    let list = ap (spelledBy (n + 1)) items ∙ spelled-next (v .items) n t spells in
+    let free : v .len / 27 - (n + 1) ≡ v .len / 27 - n - 1 = omega arith in
+    record {
+      put = (omega (arith, room, v .ok .0), λ i. record { list = list i; free = free i });
+      bytes = items ∙ ap (λ k. withLine (v .items) k t) (sym (length-spelled (v .items) n spells));
+    }
