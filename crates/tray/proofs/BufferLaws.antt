@@ -8,7 +8,7 @@ use Rattle.std.specs.Options.{Cases as BySome}
 use Rattle.std.specs.shelf.Maps.{nth}
 use Rattle.std.specs.declared.option.Option.{Option}
 use Rattle.std.specs.declared.option.Option.the-variants.{Some, None}
-use Rattle.std.proofs.shelf.Lists.{take-at, length-take-le, length-push}
+use Rattle.std.proofs.shelf.Lists.{take-at, drop-at, length-take-le, length-push}
 use Rattle.std.proofs.shelf.Maps.{nth-getD}
 use Rattle.tray.specs.declared.triangle.Triangle.{Triangle}
 use Rattle.tray.specs.Lines.{lineOf, withLine}
@@ -76,3 +76,20 @@ pub length-withLine : (bs : List ℕ) (n : ℕ) (t : Triangle) → 27 * n + 27 �
 length-withLine bs n t room =
     let rest = drop (27 * n + 27) bs in
     omega (arith, length-append (take (27 * n) bs) (lineOf t ++ rest), length-append (lineOf t) rest, length-take-le (27 * n) bs (omega arith), length-line t, length-drop (27 * n + 27) bs)
+
+-- Past the line nothing changes.
+pub drop-withLine : (bs : List ℕ) (n m : ℕ) (t : Triangle) → 27 * n + 27 ≤ length bs → m ≡ n + 1 → drop (27 * m) (withLine bs n t) ≡ drop (27 * m) bs
+drop-withLine bs n m t room e =
+    let rest = drop (27 * n + 27) bs in
+    let front = take (27 * n) bs ++ lineOf t in
+    let at : 27 * n + 27 ≡ 27 * m = omega arith in
+    let long : length front ≡ 27 * m = omega (arith, length-append (take (27 * n) bs) (lineOf t), length-take-le (27 * n) bs (omega arith), length-line t) in
+    ap (drop (27 * m)) (sym (append-assoc (take (27 * n) bs) (lineOf t) rest))
+    ∙ drop-at front rest (27 * m) long
+    ∙ ap (λ k. drop k bs) at
+
+-- The bytes are the text, and then what stands past it.
+pub text-and-rest : (bs : List ℕ) (n : ℕ) → Spells bs n → bs ≡ textOf (spelledBy n bs) ++ drop (27 * length (spelledBy n bs)) bs
+text-and-rest bs n h =
+    sym (take-append-drop (27 * n) bs)
+    ∙ (λ i. sym (h .text) i ++ drop (27 * sym (length-spelled bs n h) i) bs)

@@ -1,5 +1,5 @@
 -- What a tray means, and what putting in and emptying make of it. Assumes nothing.
-use Prim.Native.Nat.{ℕ, _+_, _-_, _^_, _<_}
+use Prim.Native.Nat.{ℕ, _+_, _-_, _^_, _≤_, _<_}
 use mathlib.Core.Path.{_≡_}
 use mathlib.Core.List.{List, [], _∷_, _++_}
 use lib.ListN.{length}
@@ -30,6 +30,9 @@ abbrev pub Put : Held → Triangle → Result (Unit {0}) Full → Held → Type 
 Put before t (Ok done) after = (0 < before .free) × (after ≡ added before t)
 Put before t (Err full) after = (before .free ≡ 0) × (after ≡ before)
 
--- What every tray owes besides: its places fit a machine word.
-pub record Lawful {S : Type 0} (holds : S → Held) : Type 0 where
+-- What every tray owes besides: its places fit a machine word; and that all past some of its places stays as it was holds of what
+-- does nothing, and of two steps in a row if it holds of each.
+pub record Lawful {S : Type 0} (holds : S → Held) (keeps : ℕ → S → S → Type 0) : Type 0 where
   pub fits : (s : S) → places (holds s) < 2 ^ 64
+  pub stays : (n : ℕ) (s : S) → keeps n s s
+  pub steps : (m n k : ℕ) (s t u : S) → m ≤ k → n ≤ k → keeps m s t → keeps n t u → keeps k s u

@@ -1,4 +1,5 @@
 // What a tray is: a holder of triangles, with places that are in use or free.
+ghost use Prim.Native.Nat.{ℕ};
 ghost use mathlib.Core.Path.{_≡_};
 ghost use lib.ListN.{length};
 ghost use Rattle.std.specs.shelf.Maps.{nth as itemAt};
@@ -14,8 +15,11 @@ pub trait Tray {
     // The list, and the free places.
     ghost holds: { Self → Held };
 
-    // The places in use and the free ones together fit a machine word.
-    ghost lawful: { Lawful holds };
+    // From one state to another, whatever the tray stands over past its first n places stays as it was.
+    ghost keeps: { ℕ → Self → Self → Type 0 };
+
+    // The places in use and the free ones together fit a machine word, and keeping goes through any number of calls.
+    ghost lawful: { Lawful holds keeps };
 
     // How many places are free.
     fn free(&self) -> usize
@@ -31,9 +35,11 @@ pub trait Tray {
 
     // Puts a triangle at the end, into a free place; turned away, with no change, only where no place is free.
     fn put(&mut self, triangle: Triangle) -> Result<(), Full>
-        ensures { λ r. ⌜ Put (holds (now (self .entry))) triangle r (holds (now (self .exit))) ⌝ };
+        ensures put { λ r. ⌜ Put (holds (now (self .entry))) triangle r (holds (now (self .exit))) ⌝ }
+        ensures rest { λ _. ⌜ keeps (length (holds (now (self .exit)) .list)) (now (self .entry)) (now (self .exit)) ⌝ };
 
     // Makes the list empty; its places are free again, besides those that were.
     fn empty(&mut self)
-        ensures { λ _. ⌜ holds (now (self .exit)) ≡ emptied (holds (now (self .entry))) ⌝ };
+        ensures emptied { λ _. ⌜ holds (now (self .exit)) ≡ emptied (holds (now (self .entry))) ⌝ }
+        ensures rest { λ _. ⌜ keeps 0 (now (self .entry)) (now (self .exit)) ⌝ };
 }

@@ -3,7 +3,7 @@ ghost use mathlib.Core.List.{[]};
 ghost use mathlib.Core.Path.{_≡_};
 ghost use Rattle.std.specs.Of.Vec.{vec-items};
 ghost use Rattle.std.specs.Vec.{made};
-ghost use Rattle.tray.specs.Records.{record-lawful, recordHolds};
+ghost use Rattle.tray.specs.Records.{record-lawful, recordHolds, recordKeeps};
 use crate::record_tray::RecordTray;
 use crate::tray::Full;
 use crate::tray::Tray;
@@ -37,6 +37,8 @@ impl RecordTray {
 
 pub impl Tray for RecordTray as TrayOfRecords {
     ghost holds = { recordHolds };
+
+    ghost keeps = { recordKeeps };
 
     ghost lawful = { record-lawful };
 

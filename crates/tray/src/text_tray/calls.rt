@@ -1,11 +1,12 @@
 // The calls of a text tray.
 ghost use Prim.Native.Nat.{_*_, _/_};
-ghost use lib.ListN.{length, take};
-ghost use mathlib.Core.List.{[]};
+ghost use lib.ListN.{drop, length};
+ghost use mathlib.Core.List.{[], _++_};
 ghost use mathlib.Core.Path.{_≡_};
 ghost use Rattle.std.specs.Of.Vec.{vec-items};
 ghost use Rattle.std.specs.Results.{Cases};
-ghost use Rattle.tray.specs.Buffers.{bytesOf, textHolds, text-lawful};
+ghost use Rattle.tray.specs.declared.text_tray.TextTray.{TextTray};
+ghost use Rattle.tray.specs.Buffers.{bytesOf, textHolds, textKeeps, text-lawful};
 ghost use Rattle.tray.specs.Holding.{Put, emptied};
 ghost use Rattle.tray.specs.Lines.{withLine};
 ghost use Rattle.tray.specs.Texts.{textOf};
@@ -34,10 +35,12 @@ impl TextTray {
         &self.bytes.as_slice()[0..end]
     }
 
-    // Ends the tray, and hands the bytes back, whole: in front stands the text of what it held.
+    // Ends the tray, and hands the bytes back, whole: in front stands the text of what it held, and then what stood there at any
+    // time since which no line past the text was written.
     pub fn into_bytes(self) -> Vec<u8>
         ensures bytes { λ r. ⌜ vec-items r ≡ bytesOf self ⌝ }
-        ensures text { λ r. ⌜ take (27 * length (textHolds self .list)) (vec-items r) ≡ textOf (textHolds self .list) ⌝ }
+        ensures text { λ r. ⌜ vec-items r ≡ textOf (textHolds self .list) ++ drop (27 * length (textHolds self .list)) (bytesOf self) ⌝ }
+        ensures given { λ r. ⌜ ((before : TextTray) → textKeeps (length (textHolds self .list)) before self → vec-items r ≡ textOf (textHolds self .list) ++ drop (27 * length (textHolds self .list)) (bytesOf before)) ⌝ }
     {
         self.bytes
     }
@@ -45,6 +48,8 @@ impl TextTray {
 
 pub impl Tray for TextTray as TrayOfText {
     ghost holds = { textHolds };
+
+    ghost keeps = { textKeeps };
 
     ghost lawful = { text-lawful };
 
@@ -67,6 +72,7 @@ pub impl Tray for TextTray as TrayOfText {
     // Writes the line into the next place, and changes no other byte.
     fn put(&mut self, triangle: Triangle) -> Result<(), Full>
         ensures put { λ r. ⌜ Put (textHolds (now (self .entry))) triangle r (textHolds (now (self .exit))) ⌝ }
+        ensures rest { λ _. ⌜ textKeeps (length (textHolds (now (self .exit)) .list)) (now (self .entry)) (now (self .exit)) ⌝ }
         ensures bytes { λ r. ⌜ Cases r (λ _. bytesOf (now (self .exit)) ≡ withLine (bytesOf (now (self .entry))) (length (textHolds (now (self .entry)) .list)) triangle) (λ _. bytesOf (now (self .exit)) ≡ bytesOf (now (self .entry))) ⌝ }
     {
         let n = self.held;
@@ -78,6 +84,7 @@ pub impl Tray for TextTray as TrayOfText {
     // Changes no byte.
     fn empty(&mut self)
         ensures emptied { λ _. ⌜ textHolds (now (self .exit)) ≡ emptied (textHolds (now (self .entry))) ⌝ }
+        ensures rest { λ _. ⌜ textKeeps 0 (now (self .entry)) (now (self .exit)) ⌝ }
         ensures bytes { λ _. ⌜ bytesOf (now (self .exit)) ≡ bytesOf (now (self .entry)) ⌝ }
     {
         self.held = 0;

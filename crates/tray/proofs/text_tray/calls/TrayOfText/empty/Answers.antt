@@ -18,4 +18,4 @@ returns c =
     let bs = s .bytes .items in
     let long = length-spelled bs (s .held) (record { within = s .within; text = s .text }) in
     let free : s .bytes .len / 27 - 0 ≡ s .bytes .len / 27 - s .held + length (spelledBy (s .held) bs) = omega (arith, s .within, s .bytes .ok .0, long) in
-    record { emptied = λ i. record { list = []; free = free i }; bytes = refl }
+    record { emptied = λ i. record { list = []; free = free i }; rest = (refl, refl); bytes = refl }

@@ -6,12 +6,12 @@ use native.Mathlib.Omega.{arith}
 use Rattle.std.specs.Changed.{refilled}
 use Rattle.std.specs.declared.alloc.Global.{Global}
 use Rattle.std.specs.declared.vec.Vec.{Vec}
-use Rattle.std.proofs.shelf.Lists.{refilled-is}
+use Rattle.std.proofs.shelf.Lists.{length-push, refilled-is}
 use Rattle.std.proofs.shelf.Results.{cases-from-err}
 use Rattle.tray.specs.declared.triangle.Triangle.{Triangle}
 use Rattle.tray.specs.Lines.{withLine}
 use Rattle.tray.specs.Texts.{spelledBy, textOf}
-use Rattle.tray.proofs.BufferLaws.{Spells, length-spelled, spelled-next, spells-next, length-withLine}
+use Rattle.tray.proofs.BufferLaws.{Spells, length-spelled, spelled-next, spells-next, length-withLine, drop-withLine}
 use Rattle.tray.proofs.Trays.{turned-away}
 use Rattle.tray.proofs.text_tray.calls.TrayOfText.put.Needs as need
 
@@ -41,6 +41,7 @@ returns-in-Break-write-line-at c =
     let error = c .from-residual .ensures .0 in
     record {
       put = turned-away _ _ (c .args .triangle) _ error none (λ i. record { list = spelledBy (s .held) (items i); free = v .len / 27 - s .held });
+      rest = (ap length items, ap (drop _) items);
       bytes = cases-from-err _ _ _ error (λ _. items);
     }
 
@@ -68,8 +69,10 @@ returns c =
     let room : 27 * n + 27 ≤ length (v .items) = omega (arith, told .0, ap length value) in
     let items = next-items v (c .write-line-at .last .bytes) n t room (told .1 ∙ ap (λ l. withLine l n t) value) in
     let list = ap (spelledBy (n + 1)) items ∙ spelled-next (v .items) n t spells in
+    let count : length (spelledBy (n + 1) (refilled v (c .write-line-at .last .bytes) .items)) ≡ n + 1 = omega (arith, ap length list, length-push (spelledBy n (v .items)) t, length-spelled (v .items) n spells) in
     let free : v .len / 27 - (n + 1) ≡ v .len / 27 - n - 1 = omega arith in
     record {
       put = (omega (arith, room, v .ok .0), λ i. record { list = list i; free = free i });
+      rest = (ap length items ∙ length-withLine (v .items) n t room, ap (drop _) items ∙ drop-withLine (v .items) n _ t room count);
       bytes = items ∙ ap (λ k. withLine (v .items) k t) (sym (length-spelled (v .items) n spells));
     }
