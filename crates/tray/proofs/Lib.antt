@@ -4,5 +4,8 @@ pub mod Decimals
 pub mod LineLaws
 pub mod LineReads
 pub mod LineWrites
+pub mod Listed
 pub mod TextLaws
+pub mod TextLoops
+pub mod TextReads
 pub mod Trays

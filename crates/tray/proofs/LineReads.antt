@@ -1,5 +1,5 @@
 -- What the readers of a line tell: the number or the triangle that was written, or that none was. Assumes nothing.
-use Prim.Native.Nat.{ℕ, _+_, _≤_, _<_}
+use Prim.Native.Nat.{ℕ, _+_, _-_, _*_, _≤_, _<_}
 use mathlib.Core.Path.{_≡_, refl, sym, ap, subst, _∙_}
 use mathlib.Core.List.{List, [], _∷_, _++_}
 use native.Mathlib.Omega.{arith}
@@ -80,3 +80,10 @@ line-read (Err e) o bs a b c h is refused =
     let r = same-cell (t .third) c 10 (omega (arith, t .below .2)) (h .c-small) (sym (in-third bs t same) ∙ h .third) in
     refused (subst (λ x. x) (λ i. Corners (p i) (q i) (r i)) (t .below, t .differ)) in
     subst (λ x. BySome x ((s : Triangle) → bs ≡ lineOf s → ⊥) (λ s. bs ≡ lineOf s)) (sym is) none
+
+-- What reading `bytes[27 n..27 n + 27]` tells, of the 27 bytes from 27 n on.
+abbrev pub Told : List ℕ → Option Triangle → Type 0
+Told line r = BySome r ((t : Triangle) → line ≡ lineOf t → ⊥) (λ t. line ≡ lineOf t)
+
+pub told-at : (bs : List ℕ) (n : ℕ) (r : Option Triangle) → Told (take (27 * n + 27 - 27 * n) (drop (27 * n) bs)) r → Told (take 27 (drop (27 * n) bs)) r
+told-at bs n r h = let width : 27 * n + 27 - 27 * n ≡ 27 = omega arith in subst (λ k. Told (take k (drop (27 * n) bs)) r) width h

@@ -21,6 +21,10 @@ places h = length (h .list) + h .free
 abbrev pub added : Held → Triangle → Held
 added h t = record { list = h .list ++ (t ∷ []); free = h .free - 1 }
 
+-- Triangles go to the end one after the other, and take a free place each.
+abbrev pub addedAll : Held → List Triangle → Held
+addedAll h ts = record { list = h .list ++ ts; free = h .free - length ts }
+
 -- The list becomes empty, and its places are free besides those that were.
 abbrev pub emptied : Held → Held
 emptied h = record { list = []; free = h .free + length (h .list) }

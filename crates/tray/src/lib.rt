@@ -1,7 +1,9 @@
 // Triangles of a surface, the trays that hold them, and their text.
 mod digits;
 mod line;
+mod pouring;
 mod record_tray;
+pub mod text;
 mod text_tray;
 mod tray;
 mod triangle;
@@ -10,6 +12,7 @@ pub use digits::eight_digits;
 pub use digits::read_digits;
 pub use line::read_line;
 pub use line::write_line_at;
+pub use pouring::pour;
 pub use record_tray::RecordTray;
 pub use record_tray::calls::TrayOfRecords;
 pub use text_tray::TextTray;

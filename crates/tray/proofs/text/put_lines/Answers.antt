@@ -1,0 +1,47 @@
+use Prim.Native.Nat.{ℕ, _*_, _≤_, _<_}
+use mathlib.Core.List.{List}
+use mathlib.Core.Path.{_≡_, sym, ap, _∙_}
+use native.Mathlib.Omega.{arith}
+use lib.ListN.{length, take}
+use Rattle.std.proofs.shelf.Lists.{length-take-le, take-all}
+use Rattle.tray.specs.Holding.{addedAll}
+use Rattle.tray.specs.Texts.{spelledBy, textOf}
+use Rattle.tray.proofs.BufferLaws.{Spells, length-spelled, spelled-at}
+use Rattle.tray.proofs.LineReads.{told-at}
+use Rattle.tray.proofs.Listed.{take-nth, nth-some}
+use Rattle.tray.proofs.Trays.{Laid, laid-none, laid-more}
+use Rattle.tray.proofs.text.put_lines.Needs as need
+use Rattle.tray.proofs.text.put_lines.Needs.{in-Some, in-rest}
+
+pub loop-n-holds : need.loop-n-holds
+loop-n-holds g c = laid-none (g .T·Tray .lawful) (c .args .into .now)
+
+-- The first lines of the text are the text of what they spell.
+spells-whole : (bs : List ℕ) (n : ℕ) → length bs ≡ 27 * n → bs ≡ textOf (spelledBy n bs) → Spells bs n
+spells-whole bs n long e = record { within = omega arith; text = sym e ∙ sym (take-all (27 * n) bs (omega arith)) }
+
+pub loop-n-again : need.loop-n-again
+loop-n-again g c =
+    let bs = c .args .text .now in
+    let lines = c .args .lines in
+    let n = c .loop-n .n in
+    let r = c .read-line .result in
+    let ts = spelledBy lines bs in
+    let spells = spells-whole bs lines (c .pre .long) (c .pre .spelled) in
+    let within : n < length ts = omega (arith, length-spelled bs lines spells) in
+    let is = spelled-at bs lines n r spells (c .loop-n-test .taken) (told-at bs n r (c .read-line .ensures)) in
+    elim (c .match-read-line .came) [
+      | in-Some w ↦
+          let more = take-nth ts n (w .in-Some .triangle) r within is (w .in-Some .is) in
+          let room : length (take n ts) < g .T·Tray .holds (c .args .into .now) .free = omega (arith, length-take-le n ts (omega arith), c .pre .room) in
+          let laid = laid-more (g .T·Tray .lawful) (c .args .into .now) (c .loop-n .into) (w .put .last .self) (take n ts) (w .in-Some .triangle) (w .put .result) (c .loop-n .inv) room (w .put .ensures .put) (w .put .ensures .rest) in
+          rw (more, w .into-is) laid
+      | in-rest w ↦ absurd (nth-some ts n r within is (w .in-rest .is))
+    ]
+
+pub returns : need.returns
+returns g c =
+    let ts = spelledBy (c .args .lines) (c .args .text .now) in
+    let spells = spells-whole (c .args .text .now) (c .args .lines) (c .pre .long) (c .pre .spelled) in
+    let all = take-all (c .loop-n .n) ts (omega (arith, length-spelled (c .args .text .now) (c .args .lines) spells)) in
+    record { list = c .loop-n .inv .list ∙ ap (addedAll (g .T·Tray .holds (c .args .into .now))) all; rest = c .loop-n .inv .rest }
