@@ -4,14 +4,12 @@ use mathlib.Core.Path.{_≡_, refl, sym, ap, subst, _∙_}
 use mathlib.Core.List.{List, [], _∷_, _++_, append-assoc}
 use native.Mathlib.Omega.{arith}
 use lib.ListN.{length, getD, take, drop, length-append, length-drop, take-append-drop}
-use Rattle.std.specs.Options.{Cases as BySome}
-use Rattle.std.specs.shelf.Maps.{nth}
 use Rattle.std.specs.declared.option.Option.{Option}
 use Rattle.std.specs.declared.option.Option.the-variants.{Some, None}
 use Rattle.std.proofs.shelf.Lists.{take-at, drop-at, length-take-le, length-push}
-use Rattle.std.proofs.shelf.Maps.{nth-getD}
 use Rattle.tray.specs.declared.triangle.Triangle.{Triangle}
-use Rattle.tray.specs.Lines.{lineOf, withLine}
+use Rattle.tray.specs.Holding.{Nth}
+use Rattle.tray.specs.Lines.{LineRead, lineOf, withLine}
 use Rattle.tray.specs.Texts.{textOf, spelledBy}
 use Rattle.tray.proofs.LineLaws.{length-line, same-line}
 use Rattle.tray.proofs.TextLaws.{text-push, length-text, spelled-text, text-at}
@@ -63,13 +61,12 @@ first-of [] h = absurd (omega arith)
 first-of (x ∷ xs) h = x
 
 -- What reading a line tells is the triangle that it was written for.
-pub spelled-at : (bs : List ℕ) (n k : ℕ) (r : Option Triangle) → Spells bs n → k < n → BySome r ((t : Triangle) → take 27 (drop (27 * k) bs) ≡ lineOf t → ⊥) (λ t. take 27 (drop (27 * k) bs) ≡ lineOf t) → r ≡ nth (spelledBy n bs) k
+pub spelled-at : (bs : List ℕ) (n k : ℕ) (r : Option Triangle) → Spells bs n → k < n → LineRead (take 27 (drop (27 * k) bs)) r → Nth (spelledBy n bs) k r
 spelled-at bs n k None h below told =
     let some : 0 < length (spelledBy n bs) = omega (arith, length-spelled bs n h) in
     absurd (told _ (line-at bs n k (first-of (spelledBy n bs) some) h below))
 spelled-at bs n k (Some t) h below told =
-    let inside : k < length (spelledBy n bs) = omega (arith, length-spelled bs n h) in
-    ap Some (same-line t _ (sym told ∙ line-at bs n k t h below)) ∙ sym (nth-getD (spelledBy n bs) k t inside)
+    (omega (arith, length-spelled bs n h), same-line t _ (sym told ∙ line-at bs n k t h below))
 
 -- A line in its place leaves the bytes as many as they were.
 pub length-withLine : (bs : List ℕ) (n : ℕ) (t : Triangle) → 27 * n + 27 ≤ length bs → length (withLine bs n t) ≡ length bs
@@ -87,9 +84,3 @@ drop-withLine bs n m t room e =
     ap (drop (27 * m)) (sym (append-assoc (take (27 * n) bs) (lineOf t) rest))
     ∙ drop-at front rest (27 * m) long
     ∙ ap (λ k. drop k bs) at
-
--- The bytes are the text, and then what stands past it.
-pub text-and-rest : (bs : List ℕ) (n : ℕ) → Spells bs n → bs ≡ textOf (spelledBy n bs) ++ drop (27 * length (spelledBy n bs)) bs
-text-and-rest bs n h =
-    sym (take-append-drop (27 * n) bs)
-    ∙ (λ i. sym (h .text) i ++ drop (27 * sym (length-spelled bs n h) i) bs)

@@ -72,15 +72,15 @@ digit-at (suc k) n i h =
 pub write-none : (ds bs : List ℕ) (i n : ℕ) → i ≡ length bs → ds ≡ digits i n → ds ≡ digits i n ++ drop i bs
 write-none ds bs i n at e = e ∙ sym (append-nil (digits i n)) ∙ ap (λ l. digits i n ++ l) (sym (drop-all i bs (omega arith)))
 
-pub write-more : (ds bs : List ℕ) (i n : ℕ) → 0 < i → i ≤ length bs → ds ≡ digits i n ++ drop i bs → ds ≡ digits (i - 1) (n / 10) ++ drop (i - 1) (set bs (i - 1) (48 + n % 10))
-write-more ds bs i n some within e =
+pub write-more : (ds bs : List ℕ) (i n d : ℕ) → 0 < i → i ≤ length bs → d ≡ 48 + n % 10 → ds ≡ digits i n ++ drop i bs → ds ≡ digits (i - 1) (n / 10) ++ drop (i - 1) (set bs (i - 1) d)
+write-more ds bs i n d some within digit e =
     let back : i - 1 + 1 ≡ i = omega arith in
     let here : i - 1 < length bs = omega arith in
-    let split = ap (λ j. digits j n) (sym back) ∙ digits-more (i - 1) n in
-    let after = drop-set bs (i - 1) (48 + n % 10) here ∙ ap (λ j. (48 + n % 10) ∷ drop j bs) back in
+    let split = ap (λ j. digits j n) (sym back) ∙ digits-more (i - 1) n ∙ ap (λ b. digits (i - 1) (n / 10) ++ (b ∷ [])) (sym digit) in
+    let after = drop-set bs (i - 1) d here ∙ ap (λ j. d ∷ drop j bs) back in
     e
     ∙ ap (λ l. l ++ drop i bs) split
-    ∙ append-assoc (digits (i - 1) (n / 10)) _ (drop i bs)
+    ∙ append-assoc (digits (i - 1) (n / 10)) (d ∷ []) (drop i bs)
     ∙ ap (λ l. digits (i - 1) (n / 10) ++ l) (sym after)
 
 pub write-all : (ds bs : List ℕ) (i n : ℕ) → i ≤ 0 → ds ≡ digits i n ++ drop i bs → bs ≡ ds
@@ -97,10 +97,8 @@ below-eight i n few small = lt-of-lt-of-le small (pow-le-pow-right {n = 10} (lit
 pub below-seven : (i n : ℕ) → i < 8 → n < 10 ^ i → n < 10000000
 below-seven i n few small = let at : i ≤ 7 = omega arith in lt-of-lt-of-le small (pow-le-pow-right {n = 10} (lit< tt) at)
 
-pub read-more : (bs : List ℕ) (i n : ℕ) → i < length bs → 48 ≤ getD bs i 0 → getD bs i 0 ≤ 57 → take i bs ≡ digits i n → take (i + 1) bs ≡ digits (i + 1) (10 * n + (getD bs i 0 - 48))
-read-more bs i n within low high e =
-    let byte : 48 + (getD bs i 0 - 48) ≡ getD bs i 0 = omega arith in
+pub read-more : (bs : List ℕ) (i n d : ℕ) → i < length bs → d < 10 → getD bs i 0 ≡ 48 + d → take i bs ≡ digits i n → take (i + 1) bs ≡ digits (i + 1) (10 * n + d)
+read-more bs i n d within small byte e =
     take-more bs i 0 within
-    ∙ ap (λ l. l ++ (getD bs i 0 ∷ [])) e
-    ∙ ap (λ b. digits i n ++ (b ∷ [])) (sym byte)
-    ∙ sym (digits-push i n (getD bs i 0 - 48) (omega arith))
+    ∙ (λ k. e k ++ (byte k ∷ []))
+    ∙ sym (digits-push i n d small)

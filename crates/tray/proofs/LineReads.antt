@@ -1,5 +1,5 @@
 -- What the readers of a line tell: the number or the triangle that was written, or that none was. Assumes nothing.
-use Prim.Native.Nat.{ℕ, _+_, _-_, _*_, _≤_, _<_}
+use Prim.Native.Nat.{ℕ, _+_, _-_, _*_, _/_, _≤_, _<_}
 use mathlib.Core.Path.{_≡_, refl, sym, ap, subst, _∙_}
 use mathlib.Core.List.{List, [], _∷_, _++_}
 use native.Mathlib.Omega.{arith}
@@ -14,7 +14,7 @@ use Rattle.std.proofs.shelf.Lists.{take-all, take-at, drop-drop, drop-more, dro
 use Rattle.tray.specs.declared.triangle.Triangle.{Triangle}
 use Rattle.tray.specs.Corners.{Corners}
 use Rattle.tray.specs.Decimal.{digits}
-use Rattle.tray.specs.Lines.{cell, lineOf}
+use Rattle.tray.specs.Lines.{LineRead, cell, lineOf}
 use Rattle.tray.proofs.Decimals.{length-digits, same-number}
 use Rattle.tray.proofs.LineLaws.{length-cell, length-line, cell-digits, first-cell, second-cell, third-cell}
 
@@ -67,11 +67,11 @@ joined-cells bs a b c h =
     ∙ (λ i. h .first i ++ (h .second i ++ (rest ∙ h .third) i))
 
 -- What making a triangle of the three numbers tells of the line.
-pub line-read : {E : Type 0} (r : Result Triangle E) (o : Option Triangle) (bs : List ℕ) (a b c : ℕ) → Cells bs a b c → o ≡ okPart r → Cases r (λ t. (t .first ≡ a) × (t .second ≡ b) × (t .third ≡ c)) (λ _. Corners a b c → ⊥) → BySome o ((t : Triangle) → bs ≡ lineOf t → ⊥) (λ t. bs ≡ lineOf t)
+pub line-read : {E : Type 0} (r : Result Triangle E) (o : Option Triangle) (bs : List ℕ) (a b c : ℕ) → Cells bs a b c → o ≡ okPart r → Cases r (λ t. (t .first ≡ a) × (t .second ≡ b) × (t .third ≡ c)) (λ _. Corners a b c → ⊥) → LineRead bs o
 unfolding lineOf
 line-read (Ok t) o bs a b c h is made =
     let line : bs ≡ lineOf t = joined-cells bs a b c h ∙ (λ i. cell (sym (made .0) i) 44 ++ (cell (sym (made .1) i) 44 ++ cell (sym (made .2) i) 10)) in
-    subst (λ x. BySome x ((s : Triangle) → bs ≡ lineOf s → ⊥) (λ s. bs ≡ lineOf s)) (sym is) line
+    subst (LineRead bs) (sym is) line
 line-read (Err e) o bs a b c h is refused =
     let none : (t : Triangle) → bs ≡ lineOf t → ⊥ =
     λ t same.
@@ -79,11 +79,17 @@ line-read (Err e) o bs a b c h is refused =
     let q = same-cell (t .second) b 44 (omega (arith, t .below .1)) (h .b-small) (sym (in-second bs t same) ∙ h .second) in
     let r = same-cell (t .third) c 10 (omega (arith, t .below .2)) (h .c-small) (sym (in-third bs t same) ∙ h .third) in
     refused (subst (λ x. x) (λ i. Corners (p i) (q i) (r i)) (t .below, t .differ)) in
-    subst (λ x. BySome x ((s : Triangle) → bs ≡ lineOf s → ⊥) (λ s. bs ≡ lineOf s)) (sym is) none
+    subst (LineRead bs) (sym is) none
 
--- What reading `bytes[27 n..27 n + 27]` tells, of the 27 bytes from 27 n on.
-abbrev pub Told : List ℕ → Option Triangle → Type 0
-Told line r = BySome r ((t : Triangle) → line ≡ lineOf t → ⊥) (λ t. line ≡ lineOf t)
+-- What reading the 27 bytes from `start` on tells of place n.
+pub read-at : (bs : List ℕ) (start n : ℕ) (r : Option Triangle) → start ≡ 27 * n → LineRead (take (start + 27 - start) (drop start bs)) r → LineRead (take 27 (drop (27 * n) bs)) r
+read-at bs start n r at h =
+    let width : start + 27 - start ≡ 27 = omega arith in
+    subst (λ l. LineRead l r) (λ i. take (width i) (drop (at i) bs)) h
 
-pub told-at : (bs : List ℕ) (n : ℕ) (r : Option Triangle) → Told (take (27 * n + 27 - 27 * n) (drop (27 * n) bs)) r → Told (take 27 (drop (27 * n) bs)) r
-told-at bs n r h = let width : 27 * n + 27 - 27 * n ≡ 27 = omega arith in subst (λ k. Told (take k (drop (27 * n) bs)) r) width h
+-- Fewer bytes than 27 are no line.
+pub read-past : (bs : List ℕ) (n : ℕ) → length bs / 27 ≤ n → LineRead (take 27 (drop (27 * n) bs)) None
+read-past bs n past = λ t e.
+    let left = drop (27 * n) bs in
+    let short : length left < 27 = omega (arith, length-drop (27 * n) bs) in
+    omega (arith, ap length (sym (take-all 27 left (omega arith)) ∙ e), length-line t)

@@ -46,8 +46,11 @@ line-written bs p q r t long ep eq er =
     ∙ (λ i. ep i ++ (eq i ++ er i))
 
 -- A line over the 27 bytes at place n.
-pub place-written : (bs l : List ℕ) (n : ℕ) (t : Triangle) → l ≡ lineOf t → putMid (27 * n) (27 * n + 27 - 27 * n) bs l ≡ withLine bs n t
-place-written bs l n t e =
+line-placed : (bs l : List ℕ) (n : ℕ) (t : Triangle) → l ≡ lineOf t → putMid (27 * n) (27 * n + 27 - 27 * n) bs l ≡ withLine bs n t
+line-placed bs l n t e =
     let after : 27 * n + (27 * n + 27 - 27 * n) ≡ 27 * n + 27 = omega arith in
     ap (λ k. take (27 * n) bs ++ (k ++ drop (27 * n + 27 - 27 * n) (drop (27 * n) bs))) e
     ∙ ap (λ k. take (27 * n) bs ++ (lineOf t ++ k)) (drop-drop (27 * n + 27 - 27 * n) (27 * n) bs ∙ ap (λ k. drop k bs) after)
+
+pub place-written : (bs l : List ℕ) (start n : ℕ) (t : Triangle) → start ≡ 27 * n → l ≡ lineOf t → putMid start (start + 27 - start) bs l ≡ withLine bs n t
+place-written bs l start n t at e = ap (λ k. putMid k (k + 27 - k) bs l) at ∙ line-placed bs l n t e

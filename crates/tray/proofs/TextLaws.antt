@@ -13,18 +13,15 @@ use Rattle.tray.proofs.LineLaws.{length-line, spelled-line}
 
 -- A line more at the end.
 pub text-push : (ts : List Triangle) (t : Triangle) → textOf (ts ++ (t ∷ [])) ≡ textOf ts ++ lineOf t
-unfolding textOf
 text-push ts t = sym (joined-more lineOf [] ts t)
 
 -- A text has 27 bytes for each triangle.
 pub length-text : (ts : List Triangle) → length (textOf ts) ≡ 27 * length ts
-unfolding textOf
 length-text [] = refl
 length-text (t ∷ ts) = length-append (lineOf t) (textOf ts) ∙ omega (arith, length-line t, length-text ts)
 
 -- Reading what is written: the lines of a text spell its list.
 pub spelled-text : (ts : List Triangle) (more : List ℕ) → spelledBy (length ts) (textOf ts ++ more) ≡ ts
-unfolding textOf spelledBy
 spelled-text [] more = refl
 spelled-text (t ∷ ts) more =
     let regroup = append-assoc (lineOf t) (textOf ts) more in
@@ -43,7 +40,6 @@ same-text ss ts e =
 
 -- The n-th line of a text is that of the n-th triangle.
 pub text-at : (ts : List Triangle) (more : List ℕ) (n : ℕ) (d : Triangle) → n < length ts → take 27 (drop (27 * n) (textOf ts ++ more)) ≡ lineOf (getD ts n d)
-unfolding textOf
 text-at [] more n d h = absurd (omega arith)
 text-at (t ∷ ts) more zero d h = ap (take 27) (append-assoc (lineOf t) (textOf ts) more) ∙ take-at (lineOf t) (textOf ts ++ more) 27 (length-line t)
 text-at (t ∷ ts) more (suc n) d h =

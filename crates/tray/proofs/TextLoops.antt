@@ -14,10 +14,9 @@ use Rattle.std.specs.declared.result.Result.the-variants.{Ok, Err}
 use Rattle.std.proofs.shelf.Lists.{take-at, drop-at, drop-drop, drop-take, take-take, take-more, take-all, length-take-le, length-push}
 use Rattle.std.proofs.shelf.Tests.{true≢false, false≢true}
 use Rattle.tray.specs.declared.triangle.Triangle.{Triangle}
-use Rattle.tray.specs.Lines.{lineOf, withLine}
+use Rattle.tray.specs.Lines.{LineRead, lineOf, withLine}
 use Rattle.tray.specs.Texts.{textOf, FaultAt}
 use Rattle.tray.proofs.LineLaws.{length-line}
-use Rattle.tray.proofs.LineReads.{Told}
 use Rattle.tray.proofs.TextLaws.{text-push, length-text}
 
 -- One triangle more is written behind the first n.
@@ -39,7 +38,6 @@ write-more (Ok done) ts bs after given n t within read room same e h = h .1 ∙ 
 write-more (Err full) ts bs after given n t within read room same e h = absurd (omega (arith, h .0))
 
 pub write-none : (given : List ℕ) → given ≡ textOf [] ++ given
-unfolding textOf
 write-none given = refl
 
 pub write-all : (ts : List Triangle) (bs given : List ℕ) (n : ℕ) → length ts ≡ n → bs ≡ textOf (take n ts) ++ drop (27 * n) given → bs ≡ textOf ts ++ drop (27 * length ts) given
@@ -50,10 +48,9 @@ abbrev pub Front : List ℕ → ℕ → Type 0
 Front bs n = (ts : List Triangle) × (take (27 * n) bs ≡ textOf ts) × (n ≡ length ts)
 
 pub front-none : (bs : List ℕ) → Front bs 0
-unfolding textOf
 front-none bs = ([], refl, refl)
 
-pub front-more : (bs : List ℕ) (n : ℕ) (r : Option Triangle) → 27 * n + 27 ≤ length bs → Front bs n → Told (take 27 (drop (27 * n) bs)) r → isSome r ≡ true → Front bs (n + 1)
+pub front-more : (bs : List ℕ) (n : ℕ) (r : Option Triangle) → 27 * n + 27 ≤ length bs → Front bs n → LineRead (take 27 (drop (27 * n) bs)) r → isSome r ≡ true → Front bs (n + 1)
 front-more bs n None room h told is = absurd (false≢true is)
 front-more bs n (Some t) room h told is =
     let next : 27 * (n + 1) ≡ 27 * n + 27 = omega arith in
@@ -69,7 +66,7 @@ module _ (bs : List ℕ) (n : ℕ) (h : Front bs n) (more : 27 * n < length bs) 
   split-front = sym (take-append-drop (27 * n) bs) ∙ ap (λ l. l ++ drop (27 * n) bs) (h .1)
 
   -- The line after them is of no triangle.
-  pub fault-line : (r : Option Triangle) → Told (take 27 (drop (27 * n) bs)) r → isSome r ≡ false → FaultAt bs (n + 1)
+  pub fault-line : (r : Option Triangle) → LineRead (take 27 (drop (27 * n) bs)) r → isSome r ≡ false → FaultAt bs (n + 1)
   fault-line None told is = record {
     before = h .0;
     rest = drop (27 * n) bs;

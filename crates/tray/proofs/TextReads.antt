@@ -18,11 +18,9 @@ use Rattle.tray.proofs.LineLaws.{length-line}
 use Rattle.tray.proofs.TextLaws.{length-text, spelled-text, same-text}
 
 after-line : (t : Triangle) (ts : List Triangle) (rest : List ℕ) → drop 27 (textOf (t ∷ ts) ++ rest) ≡ textOf ts ++ rest
-unfolding textOf
 after-line t ts rest = ap (drop 27) (append-assoc (lineOf t) (textOf ts) rest) ∙ drop-at (lineOf t) (textOf ts ++ rest) 27 (length-line t)
 
 no-text : (before : List Triangle) (rest : List ℕ) → 0 < length rest → ((t : Triangle) (more : List ℕ) → rest ≡ lineOf t ++ more → ⊥) → (ts : List Triangle) → textOf before ++ rest ≡ textOf ts → ⊥
-unfolding textOf
 no-text [] rest some astray [] e = omega (arith, ap length e)
 no-text [] rest some astray (t ∷ ts) e = astray t (textOf ts) e
 no-text (b ∷ bs) rest some astray [] e = omega (arith, ap length e, length-append (textOf (b ∷ bs)) rest)

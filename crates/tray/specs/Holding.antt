@@ -2,7 +2,9 @@
 use Prim.Native.Nat.{ℕ, _+_, _-_, _^_, _≤_, _<_}
 use mathlib.Core.Path.{_≡_}
 use mathlib.Core.List.{List, [], _∷_, _++_}
-use lib.ListN.{length}
+use lib.ListN.{length, getD}
+use Rattle.std.specs.declared.option.Option.{Option}
+use Rattle.std.specs.declared.option.Option.the-variants.{Some, None}
 use Rattle.std.specs.declared.result.Result.{Result}
 use Rattle.std.specs.declared.result.Result.the-variants.{Ok, Err}
 use Rattle.tray.specs.declared.tray.Full.{Full}
@@ -16,6 +18,11 @@ pub record Held : Type 0 where
 -- All places of a tray, in use or free.
 abbrev pub places : Held → ℕ
 places h = length (h .list) + h .free
+
+-- The n-th of a list, from 0, is there if n is below its length, and else absent.
+abbrev pub Nth : List Triangle → ℕ → Option Triangle → Type 0
+Nth ts n None = length ts ≤ n
+Nth ts n (Some t) = (n < length ts) × (t ≡ getD ts n t)
 
 -- A triangle goes to the end, and takes one free place.
 abbrev pub added : Held → Triangle → Held

@@ -6,17 +6,29 @@ use native.Mathlib.Decide.{ℕ-discrete}
 use lib.ListN.{take, drop}
 use Rattle.std.specs.declared.option.Option.{Option}
 use Rattle.std.specs.declared.option.Option.the-variants.{Some, None}
+use Rattle.tray.specs.declared.line.Mark.{Mark}
+use Rattle.tray.specs.declared.line.Mark.the-variants.{Comma, LineFeed}
 use Rattle.tray.specs.declared.triangle.Triangle.{Triangle}
 use Rattle.tray.specs.Corners.{Corners, corners?}
 use Rattle.tray.specs.Decimal.{digits, valueAfter}
 
--- A number of eight digits, and the mark after it.
+-- The byte of a mark.
+abbrev pub markByte : Mark → ℕ
+markByte Comma = 44
+markByte LineFeed = 10
+
+-- A number of eight digits, and the byte of the mark after it.
 unfoldable pub cell : ℕ → ℕ → List ℕ
 cell n mark = digits 8 n ++ (mark ∷ [])
 
--- The 27 bytes of a triangle: the comma is 44, and the line feed 10.
+-- The 27 bytes of a triangle.
 unfoldable pub lineOf : Triangle → List ℕ
-lineOf t = cell (t .first) 44 ++ (cell (t .second) 44 ++ cell (t .third) 10)
+lineOf t = cell (t .first) (markByte Comma) ++ (cell (t .second) (markByte Comma) ++ cell (t .third) (markByte LineFeed))
+
+-- Bytes are read as the triangle whose line they are, and as none only if they are the line of none.
+abbrev pub LineRead : List ℕ → Option Triangle → Type 0
+LineRead bs None = (t : Triangle) → bs ≡ lineOf t → ⊥
+LineRead bs (Some t) = bs ≡ lineOf t
 
 -- The number that eight bytes spell from one place on.
 abbrev pub numberAt : ℕ → List ℕ → ℕ

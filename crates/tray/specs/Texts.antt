@@ -11,11 +11,11 @@ use Rattle.std.specs.Joined.{joined}
 use Rattle.tray.specs.declared.triangle.Triangle.{Triangle}
 use Rattle.tray.specs.Lines.{lineOf, spelled}
 
-unfoldable pub textOf : List Triangle → List ℕ
+abbrev pub textOf : List Triangle → List ℕ
 textOf ts = joined lineOf ts
 
 -- The triangles that the first n lines of 27 bytes spell.
-unfoldable pub spelledBy : ℕ → List ℕ → List Triangle
+abbrev pub spelledBy : ℕ → List ℕ → List Triangle
 spelledBy zero bs = []
 spelledBy (suc n) bs = listOf (spelled (take 27 bs)) ++ spelledBy n (drop 27 bs)
 
@@ -25,7 +25,6 @@ few (Some x) = omega arith
 
 -- They are no more than the lines.
 pub spelled-few : (n : ℕ) (bs : List ℕ) → length (spelledBy n bs) ≤ n
-unfolding spelledBy
 spelled-few zero bs = omega arith
 spelled-few (suc n) bs =
     omega (arith, length-append (listOf (spelled (take 27 bs))) (spelledBy n (drop 27 bs)), few (spelled (take 27 bs)), spelled-few n (drop 27 bs))

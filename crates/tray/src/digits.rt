@@ -1,5 +1,5 @@
 // Numbers in eight decimal digits: writing them and reading them.
-ghost use Prim.Native.Nat.{ℕ, _≤_, _<_};
+ghost use Prim.Native.Nat.{ℕ, _+_, _%_, _≤_, _<_};
 ghost use mathlib.Core.Path.{_≡_};
 ghost use lib.ListN.{length};
 ghost use Rattle.std.specs.Options.{Cases};
@@ -26,8 +26,25 @@ pub(crate) fn write_digits(bytes: &mut [u8], number: u64)
 {
     let mut rest = number;
     for i in (0..bytes.len()).rev() {
-        bytes[i] = b'0' + (rest % 10) as u8;
+        bytes[i] = last_digit(rest);
         rest /= 10;
+    }
+}
+
+// The last digit of a number, as a byte.
+fn last_digit(number: u64) -> u8
+    ensures { λ r. ⌜ r ≡ 48 + number % 10 ⌝ }
+{
+    b'0' + (number % 10) as u8
+}
+
+// What a byte counts as a digit; none for a byte that is no digit.
+fn digit_value(byte: u8) -> Option<u32>
+    ensures { λ r. ⌜ Cases r ((48 ≤ byte → byte ≤ 57 → ⊥)) (λ d. (d < 10) × (byte ≡ 48 + d)) ⌝ }
+{
+    match byte {
+        b'0'..=b'9' => Some((byte - b'0') as u32),
+        _ => None,
     }
 }
 
@@ -40,11 +57,7 @@ pub fn read_digits(bytes: &[u8]) -> Option<u32>
     }
     let mut number = 0;
     for byte in bytes {
-        let byte = *byte;
-        if byte < b'0' || byte > b'9' {
-            return None;
-        }
-        number = 10 * number + (byte - b'0') as u32;
+        number = 10 * number + digit_value(*byte)?;
     }
     Some(number)
 }

@@ -11,6 +11,7 @@ mod triangle;
 pub use digits::eight_digits;
 pub use digits::read_digits;
 pub use line::read_line;
+pub use line::read_line_at;
 pub use line::write_line_at;
 pub use pouring::pour;
 pub use record_tray::RecordTray;

@@ -9,7 +9,7 @@ ghost use Rattle.tray.specs.Holding.{addedAll};
 ghost use Rattle.tray.specs.Reading.{Counted, Read, Written};
 ghost use Rattle.tray.specs.Texts.{spelledBy, textOf};
 use crate::line::LINE;
-use crate::line::read_line;
+use crate::line::read_line_at;
 use crate::line::write_line_at;
 use crate::tray::Tray;
 use crate::triangle::Triangle;
@@ -46,8 +46,7 @@ pub fn count(text: &[u8]) -> Result<usize, TextRefusal>
 {
     let lines = text.len() / LINE;
     for n in 0..lines {
-        let start = LINE * n;
-        if read_line(&text[start..start + LINE]).is_none() {
+        if read_line_at(text, n).is_none() {
             return Err(TextRefusal::Line(n + 1));
         }
     }
@@ -82,8 +81,7 @@ fn put_lines<T: Tray>(text: &[u8], lines: usize, into: &mut T)
     ensures rest { λ _. ⌜ T·Tray .keeps (length (T·Tray .holds (now (into .exit)) .list)) (now (into .entry)) (now (into .exit)) ⌝ }
 {
     for n in 0..lines {
-        let start = LINE * n;
-        if let Some(triangle) = read_line(&text[start..start + LINE]) {
+        if let Some(triangle) = read_line_at(text, n) {
             let _ = into.put(triangle);
         }
     }

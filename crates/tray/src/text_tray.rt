@@ -13,5 +13,6 @@ pub struct TextTray {
     bytes: Vec<u8>,
     held: usize,
     ghost within: { 27 * held ≤ length (vec-items bytes) },
+    ghost count: { length (spelledBy held (vec-items bytes)) ≡ held },
     ghost text: { textOf (spelledBy held (vec-items bytes)) ≡ take (27 * held) (vec-items bytes) },
 }

@@ -2,8 +2,7 @@
 ghost use Prim.Native.Nat.{ℕ};
 ghost use mathlib.Core.Path.{_≡_};
 ghost use lib.ListN.{length};
-ghost use Rattle.std.specs.shelf.Maps.{nth as itemAt};
-ghost use Rattle.tray.specs.Holding.{Held, Lawful, Put, emptied};
+ghost use Rattle.tray.specs.Holding.{Held, Lawful, Nth, Put, emptied};
 use crate::triangle::Triangle;
 
 // The answer of a tray with no free place.
@@ -31,7 +30,7 @@ pub trait Tray {
 
     // The n-th triangle from 0; none where n is not below the number held.
     fn nth(&self, n: usize) -> Option<Triangle>
-        ensures { λ r. ⌜ r ≡ itemAt (holds (now (self .entry)) .list) n ⌝ };
+        ensures { λ r. ⌜ Nth (holds (now (self .entry)) .list) n r ⌝ };
 
     // Puts a triangle at the end, into a free place; turned away, with no change, only where no place is free.
     fn put(&mut self, triangle: Triangle) -> Result<(), Full>

@@ -1,7 +1,7 @@
 // The calls of a text tray.
 ghost use Prim.Native.Nat.{_*_, _/_};
-ghost use lib.ListN.{drop, length};
-ghost use mathlib.Core.List.{[], _++_};
+ghost use lib.ListN.{drop, length, take};
+ghost use mathlib.Core.List.{[]};
 ghost use mathlib.Core.Path.{_≡_};
 ghost use Rattle.std.specs.Of.Vec.{vec-items};
 ghost use Rattle.std.specs.Results.{Cases};
@@ -11,7 +11,7 @@ ghost use Rattle.tray.specs.Holding.{Put, emptied};
 ghost use Rattle.tray.specs.Lines.{withLine};
 ghost use Rattle.tray.specs.Texts.{textOf};
 use crate::line::LINE;
-use crate::line::read_line;
+use crate::line::read_line_at;
 use crate::line::write_line_at;
 use crate::text_tray::TextTray;
 use crate::tray::Full;
@@ -39,8 +39,8 @@ impl TextTray {
     // time since which no line past the text was written.
     pub fn into_bytes(self) -> Vec<u8>
         ensures bytes { λ r. ⌜ vec-items r ≡ bytesOf self ⌝ }
-        ensures text { λ r. ⌜ vec-items r ≡ textOf (textHolds self .list) ++ drop (27 * length (textHolds self .list)) (bytesOf self) ⌝ }
-        ensures given { λ r. ⌜ ((before : TextTray) → textKeeps (length (textHolds self .list)) before self → vec-items r ≡ textOf (textHolds self .list) ++ drop (27 * length (textHolds self .list)) (bytesOf before)) ⌝ }
+        ensures text { λ r. ⌜ take (27 * length (textHolds self .list)) (vec-items r) ≡ textOf (textHolds self .list) ⌝ }
+        ensures given { λ r. ⌜ ((before : TextTray) → textKeeps (length (textHolds self .list)) before self → drop (27 * length (textHolds self .list)) (vec-items r) ≡ drop (27 * length (textHolds self .list)) (bytesOf before)) ⌝ }
     {
         self.bytes
     }
@@ -65,8 +65,7 @@ pub impl Tray for TextTray as TrayOfText {
         if n >= self.held {
             return None;
         }
-        let start = LINE * n;
-        read_line(&self.bytes.as_slice()[start..start + LINE])
+        read_line_at(self.bytes.as_slice(), n)
     }
 
     // Writes the line into the next place, and changes no other byte.

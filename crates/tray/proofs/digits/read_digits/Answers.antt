@@ -1,6 +1,6 @@
 use mathlib.Core.Path.{_≡_, refl, sym, ap, subst, _∙_}
 use mathlib.Core.Logic.{⊎-elim}
-use Prim.Native.Nat.{_<_, _≤_}
+use Prim.Native.Nat.{ℕ, _<_}
 use native.Mathlib.Omega.{arith}
 use lib.ListN.{length, getD}
 use Rattle.std.proofs.shelf.Lists.{take-all}
@@ -15,13 +15,17 @@ pub loop-byte-holds : need.loop-byte-holds
 unfolding digits
 loop-byte-holds c = (omega arith, refl)
 
-pub returns-then-byte-lt48 : need.returns-then-byte-lt48
-returns-then-byte-lt48 c = λ n small e.
+pub returns-in-Break-number : need.returns-in-Break-number
+returns-in-Break-number c =
+    let bs = c .args .bytes .now in
     let i = c .loop-byte .byte-index in
     let within : i < 8 = omega arith in
+    let none : (n : ℕ) → n < 100000000 → bs ≡ digits 8 n → ⊥ =
+    λ n small e.
     let same = ap (λ l. getD l i 0) e in
     let digit = digit-at 8 n i within in
-    ⊎-elim (λ low. omega (arith, same, digit, low)) (λ high. omega (arith, same, digit, high)) (c .then-byte-lt48 .either)
+    c .in-Break-number .ensures tt (omega (arith, same, digit)) (omega (arith, same, digit)) in
+    rw (c .from-residual .ensures) none
 
 pub mul-number : need.mul-number
 mul-number c = record { fits = omega (arith, below-seven (c .loop-byte .byte-index) (c .loop-byte .number) (omega arith) (c .loop-byte .inv .0)) }
@@ -30,10 +34,11 @@ pub add-number : need.add-number
 add-number c = record { fits = omega (arith, below-seven (c .loop-byte .byte-index) (c .loop-byte .number) (omega arith) (c .loop-byte .inv .0)) }
 
 pub loop-byte-again : need.loop-byte-again
-loop-byte-again c = (
-  below-more (c .loop-byte .byte-index) (c .loop-byte .number) _ (c .loop-byte .inv .0) (omega arith),
-  read-more (c .args .bytes .now) (c .loop-byte .byte-index) (c .loop-byte .number) (c .loop-byte-test .taken) (c .if-byte-lt48 .left) (c .if-byte-gt57 .left) (c .loop-byte .inv .1),
-)
+loop-byte-again c =
+    let digit = c .in-Continue-number .ensures tt in (
+      below-more (c .loop-byte .byte-index) (c .loop-byte .number) _ (c .loop-byte .inv .0) (digit .0),
+      read-more (c .args .bytes .now) (c .loop-byte .byte-index) (c .loop-byte .number) _ (c .loop-byte-test .taken) (digit .0) (digit .1) (c .loop-byte .inv .1),
+    )
 
 pub returns : need.returns
 returns c =

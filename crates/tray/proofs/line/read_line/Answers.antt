@@ -1,9 +1,8 @@
 use mathlib.Core.Path.{_≡_, sym, ap, subst, _∙_}
 use native.Mathlib.Omega.{arith}
 use lib.ListN.{length}
-use Rattle.std.specs.Options.{Cases as BySome}
 use Rattle.tray.specs.declared.triangle.Triangle.{Triangle}
-use Rattle.tray.specs.Lines.{lineOf}
+use Rattle.tray.specs.Lines.{LineRead, lineOf}
 use Rattle.tray.proofs.LineLaws.{length-line}
 use Rattle.tray.proofs.LineReads.{Cells, in-first, in-second, in-third, line-read}
 use Rattle.tray.proofs.line.read_line.Needs as need
@@ -15,19 +14,19 @@ pub returns-in-Break-first : need.returns-in-Break-first
 returns-in-Break-first c =
     let bs = c .args .line .now in
     let none : (t : Triangle) → bs ≡ lineOf t → ⊥ = λ t e. c .in-Break-first .ensures tt (t .first) (omega (arith, t .below .0)) (in-first bs t e) in
-    subst (λ x. BySome x ((t : Triangle) → bs ≡ lineOf t → ⊥) (λ t. bs ≡ lineOf t)) (sym (c .from-residual .ensures)) none
+    subst (LineRead bs) (sym (c .from-residual .ensures)) none
 
 pub returns-in-Break-second : need.returns-in-Break-second
 returns-in-Break-second c =
     let bs = c .args .line .now in
     let none : (t : Triangle) → bs ≡ lineOf t → ⊥ = λ t e. c .in-Break-second .ensures tt (t .second) (omega (arith, t .below .1)) (in-second bs t e) in
-    subst (λ x. BySome x ((t : Triangle) → bs ≡ lineOf t → ⊥) (λ t. bs ≡ lineOf t)) (sym (c .from-residual-in-Break-second .ensures)) none
+    subst (LineRead bs) (sym (c .from-residual-in-Break-second .ensures)) none
 
 pub returns-in-Break-third : need.returns-in-Break-third
 returns-in-Break-third c =
     let bs = c .args .line .now in
     let none : (t : Triangle) → bs ≡ lineOf t → ⊥ = λ t e. c .in-Break-third .ensures tt (t .third) (omega (arith, t .below .2)) (in-third bs t e) in
-    subst (λ x. BySome x ((t : Triangle) → bs ≡ lineOf t → ⊥) (λ t. bs ≡ lineOf t)) (sym (c .from-residual-in-Break-third .ensures)) none
+    subst (LineRead bs) (sym (c .from-residual-in-Break-third .ensures)) none
 
 pub returns : need.returns
 returns c =

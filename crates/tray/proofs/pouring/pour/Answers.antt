@@ -4,7 +4,7 @@ use native.Mathlib.Omega.{arith}
 use lib.ListN.{length, take}
 use Rattle.std.proofs.shelf.Lists.{length-take-le}
 use Rattle.tray.specs.Holding.{addedAll}
-use Rattle.tray.proofs.Listed.{take-nth, nth-some}
+use Rattle.tray.proofs.Listed.{take-nth}
 use Rattle.tray.proofs.Trays.{Laid, laid-none, laid-more, laid-full, had-place}
 use Rattle.tray.proofs.pouring.pour.Needs as need
 
@@ -12,9 +12,7 @@ pub loop-n-holds : need.loop-n-holds
 loop-n-holds g c = laid-none (g .T·Tray .lawful) (c .args .into .now)
 
 pub returns-in-rest : need.returns-in-rest
-returns-in-rest g c =
-    let list = g .S·Tray .holds (c .args .from .now) .list in
-    absurd (nth-some list (c .loop-n .n) (c .nth .result) (omega (arith, c .held-held .ensures)) (c .nth .ensures) (c .in-rest .is))
+returns-in-rest g c = absurd (omega (arith, c .in-rest .ensures tt, c .held-held .ensures))
 
 pub returns-then-is-err : need.returns-then-is-err
 returns-then-is-err g c =
@@ -32,10 +30,9 @@ loop-n-again g c =
     let list = g .S·Tray .holds (c .args .from .now) .list in
     let n = c .loop-n .n in
     let t = c .in-Some .triangle in
-    let within : n < length list = omega (arith, c .held-held .ensures) in
     let some = had-place (g .T·Tray .holds (c .loop-n .into)) (g .T·Tray .holds (c .put .last .self)) t (c .put .result) (c .if-is-err .ensures tt .value) (c .put .ensures .put) in
     let room : length (take n list) < g .T·Tray .holds (c .args .into .now) .free = omega (arith, some, ap (λ x. x .free) (c .loop-n .inv .list)) in
-    let more = take-nth list n t (c .nth .result) within (c .nth .ensures) (c .in-Some .is) in
+    let more = take-nth list n t (c .in-Some .ensures tt) in
     subst (λ l. Laid (g .T·Tray .holds) (g .T·Tray .keeps) (c .args .into .now) l (c .put .last .self)) (sym more)
     (laid-more (g .T·Tray .lawful) (c .args .into .now) (c .loop-n .into) (c .put .last .self) (take n list) t (c .put .result) (c .loop-n .inv) room (c .put .ensures .put) (c .put .ensures .rest))
 

@@ -5,7 +5,6 @@ use native.Mathlib.Omega.{arith}
 use Rattle.std.specs.declared.result.Result.the-variants.{Ok, Err}
 use Rattle.tray.specs.declared.text.TextRefusal.the-variants.{Line}
 use Rattle.tray.specs.Texts.{FaultAt}
-use Rattle.tray.proofs.LineReads.{told-at}
 use Rattle.tray.proofs.TextLoops.{Front, front-none, front-more, front-all, fault-line, fault-end}
 use Rattle.tray.proofs.TextReads.{counted-back}
 use Rattle.tray.proofs.text.count.Needs as need
@@ -17,16 +16,16 @@ pub returns-then-is-none : need.returns-then-is-none
 returns-then-is-none c =
     let bs = c .args .text .now in
     let n = c .loop-n .n in
-    let r = c .read-line .result in
-    let fault = fault-line bs n (c .loop-n .inv) (omega arith) r (told-at bs n r (c .read-line .ensures)) (c .if-is-none .ensures tt) in
+    let r = c .read-line-at .result in
+    let fault = fault-line bs n (c .loop-n .inv) (omega arith) r (c .read-line-at .ensures) (c .if-is-none .ensures tt) in
     record { told = fault; back = counted-back bs (Err (Line (n + 1))) fault }
 
 pub loop-n-again : need.loop-n-again
 loop-n-again c =
     let bs = c .args .text .now in
     let n = c .loop-n .n in
-    let r = c .read-line .result in
-    front-more bs n r (omega arith) (c .loop-n .inv) (told-at bs n r (c .read-line .ensures)) (c .if-is-none .ensures tt)
+    let r = c .read-line-at .result in
+    front-more bs n r (omega arith) (c .loop-n .inv) (c .read-line-at .ensures) (c .if-is-none .ensures tt)
 
 pub returns-then-lines-text : need.returns-then-lines-text
 returns-then-lines-text c =

@@ -1,14 +1,13 @@
 use Prim.Native.Nat.{ℕ, _*_, _≤_, _<_}
 use mathlib.Core.List.{List}
-use mathlib.Core.Path.{_≡_, sym, ap, _∙_}
+use mathlib.Core.Path.{_≡_, sym, ap, subst, _∙_}
 use native.Mathlib.Omega.{arith}
 use lib.ListN.{length, take}
 use Rattle.std.proofs.shelf.Lists.{length-take-le, take-all}
-use Rattle.tray.specs.Holding.{addedAll}
+use Rattle.tray.specs.Holding.{Nth, addedAll}
 use Rattle.tray.specs.Texts.{spelledBy, textOf}
 use Rattle.tray.proofs.BufferLaws.{Spells, length-spelled, spelled-at}
-use Rattle.tray.proofs.LineReads.{told-at}
-use Rattle.tray.proofs.Listed.{take-nth, nth-some}
+use Rattle.tray.proofs.Listed.{take-nth}
 use Rattle.tray.proofs.Trays.{Laid, laid-none, laid-more}
 use Rattle.tray.proofs.text.put_lines.Needs as need
 use Rattle.tray.proofs.text.put_lines.Needs.{in-Some, in-rest}
@@ -25,18 +24,18 @@ loop-n-again g c =
     let bs = c .args .text .now in
     let lines = c .args .lines in
     let n = c .loop-n .n in
-    let r = c .read-line .result in
+    let r = c .read-line-at .result in
     let ts = spelledBy lines bs in
     let spells = spells-whole bs lines (c .pre .long) (c .pre .spelled) in
     let within : n < length ts = omega (arith, length-spelled bs lines spells) in
-    let is = spelled-at bs lines n r spells (c .loop-n-test .taken) (told-at bs n r (c .read-line .ensures)) in
-    elim (c .match-read-line .came) [
+    let is = spelled-at bs lines n r spells (c .loop-n-test .taken) (c .read-line-at .ensures) in
+    elim (c .match-read-line-at .came) [
       | in-Some w ↦
-          let more = take-nth ts n (w .in-Some .triangle) r within is (w .in-Some .is) in
+          let more = take-nth ts n (w .in-Some .triangle) (subst (Nth ts n) (w .in-Some .is) is) in
           let room : length (take n ts) < g .T·Tray .holds (c .args .into .now) .free = omega (arith, length-take-le n ts (omega arith), c .pre .room) in
           let laid = laid-more (g .T·Tray .lawful) (c .args .into .now) (c .loop-n .into) (w .put .last .self) (take n ts) (w .in-Some .triangle) (w .put .result) (c .loop-n .inv) room (w .put .ensures .put) (w .put .ensures .rest) in
           rw (more, w .into-is) laid
-      | in-rest w ↦ absurd (nth-some ts n r within is (w .in-rest .is))
+      | in-rest w ↦ absurd (omega (arith, within, subst (Nth ts n) (w .in-rest .is) is))
     ]
 
 pub returns : need.returns

@@ -19,6 +19,10 @@ use Rattle.tray.proofs.text_tray.calls.TrayOfText.put.Needs as need
 next-items : (v : Vec ℕ Global) (ws : List ℕ) (n : ℕ) (t : Triangle) → 27 * n + 27 ≤ length (v .items) → ws ≡ withLine (v .items) n t → refilled v ws .items ≡ withLine (v .items) n t
 next-items v ws n t room e = refilled-is v ws (ap length e ∙ length-withLine (v .items) n t room ∙ sym (v .ok .0)) ∙ e
 
+-- What the ghost fields say of n lines in the bytes.
+abbrev Kept : ℕ → List ℕ → Type 0
+Kept n bs = (27 * n ≤ length bs) × ((length (spelledBy n bs) ≡ n) × ((textOf (spelledBy n bs) ≡ take (27 * n) bs) × Unit {0}))
+
 pub ghost-self : need.ghost-self
 ghost-self c =
     let s = c .args .self .now in
@@ -26,7 +30,7 @@ ghost-self c =
     let ws = c .write-line-at .last .bytes in
     let same : ws ≡ v .items = c .in-Break-write-line-at .ensures tt .1 ∙ c .as-mut-slice .ensures .value in
     let items = refilled-is v ws (ap length same ∙ sym (v .ok .0)) ∙ same in
-    subst (λ l. (27 * s .held ≤ length l) × ((textOf (spelledBy (s .held) l) ≡ take (27 * s .held) l) × Unit {0})) (sym items) (s .within, (s .text, tt))
+    subst (Kept (s .held)) (sym items) (s .within, (s .count, (s .text, tt)))
 
 pub returns-in-Break-write-line-at : need.returns-in-Break-write-line-at
 returns-in-Break-write-line-at c =
@@ -55,7 +59,7 @@ ghost-self-2 c =
     let room : 27 * n + 27 ≤ length (v .items) = omega (arith, told .0, ap length value) in
     let items = next-items v (c .write-line-at .last .bytes) n (c .args .triangle) room (told .1 ∙ ap (λ l. withLine l n (c .args .triangle)) value) in
     let next = spells-next (v .items) n (c .args .triangle) (record { within = s .within; text = s .text }) room in
-    subst (λ l. (27 * (n + 1) ≤ length l) × ((textOf (spelledBy (n + 1) l) ≡ take (27 * (n + 1)) l) × Unit {0})) (sym items) (next .within, (next .text, tt))
+    subst (Kept (n + 1)) (sym items) (next .within, (length-spelled _ (n + 1) next, (next .text, tt)))
 
 pub returns : need.returns
 returns c =
