@@ -58,3 +58,17 @@ read-back bs before after (Err (Line k)) h ts e room = absurd (fault-no-text bs 
 read-back bs before after (Err (NoRoom m f)) h ts e room =
     let same = same-text (h .0 .0) ts (sym (h .0 .1) ∙ e) in
     absurd (omega (arith, h .0 .2, ap length same, h .1, h .2))
+
+no-fewer : (ts us : List Triangle) (rest over : List ℕ) → ((t : Triangle) (more : List ℕ) → rest ≡ lineOf t ++ more → ⊥) → textOf ts ++ rest ≡ textOf us ++ over → length us ≤ length ts
+no-fewer ts [] rest over astray e = omega arith
+no-fewer [] (u ∷ us) rest over astray e = absurd (astray u (textOf us ++ over) (e ∙ append-assoc (lineOf u) (textOf us) over))
+no-fewer (t ∷ ts) (u ∷ us) rest over astray e =
+    let tail = no-fewer ts us rest over astray (sym (after-line t ts rest) ∙ ap (drop 27) e ∙ after-line u us over) in
+    omega arith
+
+-- A text is at fault in one line only.
+pub same-fault : (bs : List ℕ) (j k : ℕ) → FaultAt bs j → FaultAt bs k → j ≡ k
+same-fault bs j k g h =
+    let low = no-fewer (g .before) (h .before) (g .rest) (h .rest) (g .astray) (sym (g .split) ∙ h .split) in
+    let high = no-fewer (h .before) (g .before) (h .rest) (g .rest) (h .astray) (sym (h .split) ∙ g .split) in
+    omega (arith, g .counted, h .counted)

@@ -12,7 +12,7 @@ use Rattle.std.proofs.shelf.Lists.{length-push}
 use Rattle.std.proofs.shelf.Tests.{true≢false, false≢true}
 use Rattle.tray.specs.declared.tray.Full.{Full}
 use Rattle.tray.specs.declared.triangle.Triangle.{Triangle}
-use Rattle.tray.specs.Holding.{Held, Lawful, Put, added, addedAll}
+use Rattle.tray.specs.Holding.{Held, Lawful, Put, added, addedAll, emptied, places}
 
 -- A triangle is turned away where no place is free, and nothing changes.
 pub turned-away : (before after : Held) (t : Triangle) (r : Result (Unit {0}) Full) → isErr r ≡ true → before .free ≡ 0 → after ≡ before → Put before t r after
@@ -40,6 +40,13 @@ pub added-more : (h : Held) (ts : List Triangle) (t : Triangle) → added (added
 added-more h ts t =
     let free : h .free - length ts - 1 ≡ h .free - length (ts ++ (t ∷ [])) = omega (arith, length-push ts t) in
     λ i. record { list = append-assoc (h .list) ts (t ∷ []) i; free = free i }
+
+-- No call changes how many places a tray has.
+pub places-all : (h : Held) (ts : List Triangle) → length ts ≤ h .free → places (addedAll h ts) ≡ places h
+places-all h ts fit = omega (arith, length-append (h .list) ts)
+
+pub places-emptied : (h : Held) → places (emptied h) ≡ places h
+places-emptied h = omega arith
 
 -- The triangles went in from one state to another, and nothing past them changed.
 pub record Laid {S : Type 0} (holds : S → Held) (keeps : ℕ → S → S → Type 0) (before : S) (ts : List Triangle) (after : S) : Type 0 where

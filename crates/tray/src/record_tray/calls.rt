@@ -31,7 +31,8 @@ impl RecordTray {
     pub fn into_list(self) -> Vec<Triangle>
         ensures { λ r. ⌜ vec-items r ≡ recordHolds self .list ⌝ }
     {
-        self.list
+        let RecordTray { list, places: _ } = self;
+        list
     }
 }
 

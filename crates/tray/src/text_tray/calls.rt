@@ -42,7 +42,8 @@ impl TextTray {
         ensures text { λ r. ⌜ take (27 * length (textHolds self .list)) (vec-items r) ≡ textOf (textHolds self .list) ⌝ }
         ensures given { λ r. ⌜ ((before : TextTray) → textKeeps (length (textHolds self .list)) before self → drop (27 * length (textHolds self .list)) (vec-items r) ≡ drop (27 * length (textHolds self .list)) (bytesOf before)) ⌝ }
     {
-        self.bytes
+        let TextTray { bytes, held: _ } = self;
+        bytes
     }
 }
 
