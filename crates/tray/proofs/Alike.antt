@@ -1,5 +1,4 @@
 -- A triangle is known by its corners. Assumes nothing.
-use Prim.Native.Nat.{ℕ, _<_}
 use mathlib.Core.Path.{_≡_}
 use mathlib.Core.HLevel.{isProp→PathP, ×₃-prop, ¬-prop}
 use native.Mathlib.Bridge.{le-prop}

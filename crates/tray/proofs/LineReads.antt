@@ -1,6 +1,6 @@
 -- What the readers of a line tell: the number or the triangle that was written, or that none was. Assumes nothing.
 use Prim.Native.Nat.{ℕ, _+_, _-_, _*_, _/_, _≤_, _<_}
-use mathlib.Core.Path.{_≡_, refl, sym, ap, subst, _∙_}
+use mathlib.Core.Path.{_≡_, sym, ap, subst, _∙_}
 use mathlib.Core.List.{List, [], _∷_, _++_}
 use native.Mathlib.Omega.{arith}
 use lib.ListN.{length, getD, take, drop, length-drop, take-append-drop}
@@ -10,13 +10,13 @@ use Rattle.std.specs.declared.option.Option.{Option}
 use Rattle.std.specs.declared.option.Option.the-variants.{Some, None}
 use Rattle.std.specs.declared.result.Result.{Result}
 use Rattle.std.specs.declared.result.Result.the-variants.{Ok, Err}
-use Rattle.std.proofs.shelf.Lists.{take-all, take-at, drop-drop, drop-more, drop-all, getD-at}
+use Rattle.std.proofs.shelf.Lists.{take-all, drop-drop, drop-more, drop-all, getD-at}
 use Rattle.tray.specs.declared.triangle.Triangle.{Triangle}
 use Rattle.tray.specs.Corners.{Corners}
 use Rattle.tray.specs.Decimal.{digits}
 use Rattle.tray.specs.Lines.{LineRead, cell, lineOf}
 use Rattle.tray.proofs.Decimals.{length-digits, same-number}
-use Rattle.tray.proofs.LineLaws.{length-cell, length-line, cell-digits, first-cell, second-cell, third-cell}
+use Rattle.tray.proofs.LineLaws.{length-line, cell-digits, first-cell, second-cell, third-cell}
 
 -- The mark of a cell is its last byte.
 pub cell-mark : (n mark : ℕ) → getD (cell n mark) 8 0 ≡ mark

@@ -1,9 +1,9 @@
 -- What the writers of a line leave: cell after cell, and every other byte as it was. Assumes nothing.
-use Prim.Native.Nat.{ℕ, _+_, _-_, _*_, _≤_, _<_}
-use mathlib.Core.Path.{_≡_, refl, sym, ap, _∙_}
+use Prim.Native.Nat.{ℕ, _+_, _-_, _*_}
+use mathlib.Core.Path.{_≡_, sym, ap, _∙_}
 use mathlib.Core.List.{List, [], _∷_, _++_, append-nil, append-assoc}
 use native.Mathlib.Omega.{arith}
-use borrow.Rule.Slice.PartMut.{putMid, postOf}
+use borrow.Rule.Slice.PartMut.{putMid}
 use lib.ListN.{length, getD, set, take, drop, length-append, length-drop}
 use Rattle.std.proofs.shelf.Lists.{take-at, drop-at, drop-drop, drop-more, drop-all, set-at, length-take-le}
 use Rattle.tray.specs.declared.triangle.Triangle.{Triangle}

@@ -1,8 +1,8 @@
 -- The n-th of a list, and one more of its front. Assumes nothing.
-use Prim.Native.Nat.{ℕ, _+_, _<_}
+use Prim.Native.Nat.{ℕ, _+_}
 use mathlib.Core.List.{List, [], _∷_, _++_}
 use mathlib.Core.Path.{_≡_, sym, ap, _∙_}
-use lib.ListN.{length, take}
+use lib.ListN.{take}
 use Rattle.std.specs.declared.option.Option.the-variants.{Some}
 use Rattle.std.proofs.shelf.Lists.{take-more}
 use Rattle.tray.specs.declared.triangle.Triangle.{Triangle}

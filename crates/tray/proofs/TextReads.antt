@@ -1,5 +1,5 @@
 -- What reading a text tells: reading the text of a list gives back its triangles, and a text at fault is the text of no list. Assumes nothing.
-use Prim.Native.Nat.{ℕ, _+_, _*_, _≤_, _<_}
+use Prim.Native.Nat.{ℕ, _≤_, _<_}
 use mathlib.Core.List.{List, [], _∷_, _++_, append-assoc, append-nil}
 use mathlib.Core.Path.{_≡_, refl, sym, ap, subst, _∙_}
 use native.Mathlib.Omega.{arith}
@@ -15,7 +15,7 @@ use Rattle.tray.specs.Lines.{lineOf}
 use Rattle.tray.specs.Reading.{Counted, Read}
 use Rattle.tray.specs.Texts.{textOf, spelledBy, FaultAt}
 use Rattle.tray.proofs.LineLaws.{length-line}
-use Rattle.tray.proofs.TextLaws.{length-text, spelled-text, same-text}
+use Rattle.tray.proofs.TextLaws.{spelled-text, same-text}
 
 after-line : (t : Triangle) (ts : List Triangle) (rest : List ℕ) → drop 27 (textOf (t ∷ ts) ++ rest) ≡ textOf ts ++ rest
 after-line t ts rest = ap (drop 27) (append-assoc (lineOf t) (textOf ts) rest) ∙ drop-at (lineOf t) (textOf ts ++ rest) 27 (length-line t)

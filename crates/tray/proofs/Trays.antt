@@ -1,8 +1,8 @@
 -- What putting triangles into any tray, one after the other, leaves. Assumes nothing.
-use Prim.Native.Nat.{ℕ, _+_, _-_, _≤_, _<_}
+use Prim.Native.Nat.{ℕ, _-_, _≤_, _<_}
 use mathlib.Core.Bool.{true, false}
 use mathlib.Core.List.{List, [], _∷_, _++_, append-assoc, append-nil}
-use mathlib.Core.Path.{_≡_, refl, sym, ap, subst, _∙_}
+use mathlib.Core.Path.{_≡_, sym, ap, _∙_}
 use native.Mathlib.Omega.{arith}
 use lib.ListN.{length, length-append}
 use Rattle.std.specs.Results.{isErr}
@@ -57,6 +57,10 @@ pub record Laid {S : Type 0} (holds : S → Held) (keeps : ℕ → S → S → T
 module _ {S : Type 0} {holds : S → Held} {keeps : ℕ → S → S → Type 0} (lawful : Lawful holds keeps) where
   pub laid-none : (s : S) → Laid holds keeps s [] s
   laid-none s = record { fit = omega arith; list = added-none (holds s); rest = lawful .stays _ s }
+
+  -- Where a place is free still, fewer went in than there were free places.
+  pub laid-room : (s m : S) (ts : List Triangle) → Laid holds keeps s ts m → 0 < holds m .free → length ts < holds s .free
+  laid-room s m ts h some = omega (arith, ap (λ x. x .free) (h .list))
 
   -- Where fewer went in than there were free places, one more does.
   pub laid-more : (s m e : S) (ts : List Triangle) (t : Triangle) (r : Result (Unit {0}) Full) → Laid holds keeps s ts m → length ts < holds s .free → Put (holds m) t r (holds e) → keeps (length (holds e .list)) m e → Laid holds keeps s (ts ++ (t ∷ [])) e

@@ -34,11 +34,12 @@ LineRead bs (Some t) = bs ≡ lineOf t
 abbrev pub numberAt : ℕ → List ℕ → ℕ
 numberAt i bs = valueAfter 0 (take 8 (drop i bs))
 
--- The triangle with these corners, if they are corners of one.
+-- What a decision on three corners gives: their triangle, if they are corners of one.
 unfoldable pub decided : {a b c : ℕ} → Dec (Corners a b c) → Option Triangle
 decided {a} {b} {c} (yes h) = Some (record { first = a; second = b; third = c; below = h .0; differ = h .1 })
 decided (no h) = None
 
+-- The triangle with these corners, if they are corners of one.
 unfoldable pub triangleWith : ℕ → ℕ → ℕ → Option Triangle
 triangleWith a b c = decided (corners? a b c)
 
@@ -47,6 +48,7 @@ unfoldable pub kept : {bs : List ℕ} (t : Triangle) → Dec (bs ≡ lineOf t) �
 kept t (yes h) = Some t
 kept t (no h) = None
 
+-- A candidate that is there is tried.
 unfoldable pub confirmed : List ℕ → Option Triangle → Option Triangle
 confirmed bs None = None
 confirmed bs (Some t) = kept t (List-discrete ℕ-discrete bs (lineOf t))

@@ -1,7 +1,7 @@
 -- The text of a list of triangles: their lines, one after the other. Assumes nothing.
 use Prim.Native.Nat.{ℕ, zero, suc, _+_, _≤_, _<_}
 use mathlib.Core.Path.{_≡_}
-use mathlib.Core.List.{List, [], _∷_, _++_}
+use mathlib.Core.List.{List, [], _++_}
 use native.Mathlib.Omega.{arith}
 use lib.ListN.{length, take, drop, length-append}
 use Rattle.std.specs.declared.option.Option.{Option}
@@ -11,6 +11,7 @@ use Rattle.std.specs.Joined.{joined}
 use Rattle.tray.specs.declared.triangle.Triangle.{Triangle}
 use Rattle.tray.specs.Lines.{lineOf, spelled}
 
+-- The lines of the triangles, in order, and nothing else.
 abbrev pub textOf : List Triangle → List ℕ
 textOf ts = joined lineOf ts
 

@@ -3,7 +3,7 @@ ghost use Prim.Native.Nat.{ℕ, _+_, _%_, _≤_, _<_};
 ghost use mathlib.Core.Path.{_≡_};
 ghost use lib.ListN.{length};
 ghost use Rattle.std.specs.Options.{Cases};
-ghost use Rattle.tray.specs.Decimal.{digits};
+ghost use Rattle.tray.specs.Decimal.{digits, valueAfter};
 
 // Eight digits write the numbers below this.
 const NUMBERS: u64 = 100_000_000;
@@ -50,7 +50,8 @@ fn digit_value(byte: u8) -> Option<u32>
 
 // The number that eight digits write; none for any other bytes.
 pub fn read_digits(bytes: &[u8]) -> Option<u32>
-    ensures { λ r. ⌜ Cases r ((n : ℕ) → n < 100000000 → now (bytes .entry) ≡ digits 8 n → ⊥) (λ n. (n < 100000000) × (now (bytes .entry) ≡ digits 8 n)) ⌝ }
+    ensures told { λ r. ⌜ Cases r ((n : ℕ) → n < 100000000 → now (bytes .entry) ≡ digits 8 n → ⊥) (λ n. (n < 100000000) × (now (bytes .entry) ≡ digits 8 n)) ⌝ }
+    ensures value { λ r. ⌜ Cases r (Unit {0}) (λ n. valueAfter 0 (now (bytes .entry)) ≡ n) ⌝ }
 {
     if bytes.len() != 8 {
         return None;

@@ -43,7 +43,8 @@ fn line_start(n: usize) -> usize
     LINE * n
 }
 
-// Writes the line of a triangle into place n, the 27 bytes from 27 n on; refused, with no change, where the bytes end before it does.
+// Writes the line of a triangle into place n, by lending the 27 bytes from 27 n on to the line writer; refused, with no change, where the
+// bytes end before it does.
 pub fn write_line_at(bytes: &mut [u8], n: usize, triangle: Triangle) -> Result<(), Full>
     ensures { λ r. ⌜ Cases r (λ _. (27 * n + 27 ≤ length (now (bytes .entry))) × (now (bytes .exit) ≡ withLine (now (bytes .entry)) n triangle)) (λ _. (length (now (bytes .entry)) < 27 * n + 27) × (now (bytes .exit) ≡ now (bytes .entry))) ⌝ }
 {

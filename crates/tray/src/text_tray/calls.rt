@@ -69,7 +69,7 @@ pub impl Tray for TextTray as TrayOfText {
         read_line_at(self.bytes.as_slice(), n)
     }
 
-    // Writes the line into the next place, and changes no other byte.
+    // Writes the line into the next place, and changes no other byte: the buffer goes whole to the call that lends 27 bytes of it on.
     fn put(&mut self, triangle: Triangle) -> Result<(), Full>
         ensures put { λ r. ⌜ Put (textHolds (now (self .entry))) triangle r (textHolds (now (self .exit))) ⌝ }
         ensures rest { λ _. ⌜ textKeeps (length (textHolds (now (self .exit)) .list)) (now (self .entry)) (now (self .exit)) ⌝ }

@@ -1,15 +1,14 @@
-use mathlib.Core.Path.{_≡_, refl, sym, ap, subst, _∙_}
-use mathlib.Core.Logic.{⊎-elim}
+use mathlib.Core.Path.{_≡_, refl, sym, ap, _∙_}
 use Prim.Native.Nat.{ℕ, _<_}
 use native.Mathlib.Omega.{arith}
 use lib.ListN.{length, getD}
 use Rattle.std.proofs.shelf.Lists.{take-all}
-use Rattle.tray.specs.Decimal.{digits}
-use Rattle.tray.proofs.Decimals.{length-digits, digit-at, below-more, below-eight, below-seven, read-more}
+use Rattle.tray.specs.Decimal.{digits, valueAfter}
+use Rattle.tray.proofs.Decimals.{length-digits, value-digits, digit-at, below-more, below-eight, below-seven, read-more}
 use Rattle.tray.proofs.digits.read_digits.Needs as need
 
 pub returns-then-bytes-ne8 : need.returns-then-bytes-ne8
-returns-then-bytes-ne8 c = λ n small e. c .if-bytes-ne8 .taken (ap length e ∙ length-digits 8 n)
+returns-then-bytes-ne8 c = record { told = λ n small e. c .if-bytes-ne8 .taken (ap length e ∙ length-digits 8 n); value = tt }
 
 pub loop-byte-holds : need.loop-byte-holds
 unfolding digits
@@ -25,7 +24,7 @@ returns-in-Break-number c =
     let same = ap (λ l. getD l i 0) e in
     let digit = digit-at 8 n i within in
     c .in-Break-number .ensures tt (omega (arith, same, digit)) (omega (arith, same, digit)) in
-    rw (c .from-residual .ensures) none
+    record { told = rw (c .from-residual .ensures) none; value = rw (c .from-residual .ensures) tt }
 
 pub mul-number : need.mul-number
 mul-number c = record { fits = omega (arith, below-seven (c .loop-byte .byte-index) (c .loop-byte .number) (omega arith) (c .loop-byte .inv .0)) }
@@ -43,7 +42,8 @@ loop-byte-again c =
 pub returns : need.returns
 returns c =
     let i = c .loop-byte .byte-index in
-    let end : i ≡ 8 = omega arith in (
-      below-eight i (c .loop-byte .number) (omega arith) (c .loop-byte .inv .0),
-      sym (take-all i (c .args .bytes .now) (c .loop-byte-test .left)) ∙ c .loop-byte .inv .1 ∙ ap (λ k. digits k (c .loop-byte .number)) end,
-    )
+    let n = c .loop-byte .number in
+    let end : i ≡ 8 = omega arith in
+    let small = below-eight i n (omega arith) (c .loop-byte .inv .0) in
+    let written = sym (take-all i (c .args .bytes .now) (c .loop-byte-test .left)) ∙ c .loop-byte .inv .1 ∙ ap (λ k. digits k n) end in
+    record { told = (small, written); value = ap (valueAfter 0) written ∙ value-digits 8 n small }

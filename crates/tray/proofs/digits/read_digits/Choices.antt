@@ -1,6 +1,6 @@
 use mathlib.Core.Path.{_≡_}
 use Prim.Native.Nat.{_^_, _<_}
-use lib.ListN.{length, take}
+use lib.ListN.{take}
 use Rattle.tray.specs.Decimal.{digits}
 use Rattle.tray.proofs.digits.read_digits.Given as given
 

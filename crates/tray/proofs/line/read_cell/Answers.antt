@@ -14,4 +14,4 @@ returns-then-bytes-ne-CELL c = λ n small e.
     ]
 
 pub returns : need.returns
-returns c = cell-read (c .read-digits .result) (c .args .bytes .now) (markByte (c .args .mark)) (c .if-bytes-ne-CELL .left) (c .if-bytes-byte .left ∙ c .byte .ensures) (c .read-digits .ensures)
+returns c = cell-read (c .read-digits .result) (c .args .bytes .now) (markByte (c .args .mark)) (c .if-bytes-ne-CELL .left) (c .if-bytes-byte .left ∙ c .byte .ensures) (c .read-digits .ensures .told)

@@ -4,7 +4,7 @@ use lib.ListN.{length}
 use Rattle.tray.specs.declared.triangle.Triangle.{Triangle}
 use Rattle.tray.specs.Lines.{LineRead, lineOf}
 use Rattle.tray.proofs.LineLaws.{length-line}
-use Rattle.tray.proofs.LineReads.{Cells, in-first, in-second, in-third, line-read}
+use Rattle.tray.proofs.LineReads.{in-first, in-second, in-third, line-read}
 use Rattle.tray.proofs.line.read_line.Needs as need
 
 pub returns-then-line-ne-LINE : need.returns-then-line-ne-LINE

@@ -1,4 +1,3 @@
-use native.Mathlib.Omega.{arith}
 use Rattle.tray.proofs.LineReads.{read-at, read-past}
 use Rattle.tray.proofs.line.read_line_at.Needs as need
 

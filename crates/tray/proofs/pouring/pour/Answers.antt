@@ -1,11 +1,11 @@
-use Prim.Native.Nat.{_≤_, _<_}
-use mathlib.Core.Path.{_≡_, sym, ap, subst, _∙_}
+use Prim.Native.Nat.{_≤_}
+use mathlib.Core.Path.{_≡_, sym, subst}
 use native.Mathlib.Omega.{arith}
 use lib.ListN.{length, take}
 use Rattle.std.proofs.shelf.Lists.{length-take-le}
 use Rattle.tray.specs.Holding.{addedAll}
 use Rattle.tray.proofs.Listed.{take-nth}
-use Rattle.tray.proofs.Trays.{Laid, laid-none, laid-more, laid-full, had-place}
+use Rattle.tray.proofs.Trays.{Laid, laid-none, laid-room, laid-more, laid-full, had-place}
 use Rattle.tray.proofs.pouring.pour.Needs as need
 
 pub loop-n-holds : need.loop-n-holds
@@ -31,7 +31,7 @@ loop-n-again g c =
     let n = c .loop-n .n in
     let t = c .in-Some .triangle in
     let some = had-place (g .T·Tray .holds (c .loop-n .into)) (g .T·Tray .holds (c .put .last .self)) t (c .put .result) (c .if-is-err .ensures tt .value) (c .put .ensures .put) in
-    let room : length (take n list) < g .T·Tray .holds (c .args .into .now) .free = omega (arith, some, ap (λ x. x .free) (c .loop-n .inv .list)) in
+    let room = laid-room (g .T·Tray .lawful) (c .args .into .now) (c .loop-n .into) (take n list) (c .loop-n .inv) some in
     let more = take-nth list n t (c .in-Some .ensures tt) in
     subst (λ l. Laid (g .T·Tray .holds) (g .T·Tray .keeps) (c .args .into .now) l (c .put .last .self)) (sym more)
     (laid-more (g .T·Tray .lawful) (c .args .into .now) (c .loop-n .into) (c .put .last .self) (take n list) t (c .put .result) (c .loop-n .inv) room (c .put .ensures .put) (c .put .ensures .rest))
@@ -42,4 +42,4 @@ returns g c =
     let end : c .loop-n .n ≡ c .held-held .result = omega arith in
     let long = length-take-le (c .loop-n .n) list (omega (arith, c .held-held .ensures)) in
     let laid = c .loop-n .inv in
-    record { count = omega (arith, c .held-held .ensures, laid .fit, long); poured = laid .list ∙ ap (λ k. addedAll (g .T·Tray .holds (c .args .into .now)) (take k list)) end; rest = laid .rest }
+    record { count = omega (arith, c .held-held .ensures, laid .fit, long); poured = subst (λ k. g .T·Tray .holds (c .loop-n .into) ≡ addedAll (g .T·Tray .holds (c .args .into .now)) (take k list)) end (laid .list); rest = laid .rest }

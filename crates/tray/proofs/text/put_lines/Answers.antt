@@ -1,4 +1,4 @@
-use Prim.Native.Nat.{ℕ, _*_, _≤_, _<_}
+use Prim.Native.Nat.{ℕ, _*_, _<_}
 use mathlib.Core.List.{List}
 use mathlib.Core.Path.{_≡_, sym, ap, subst, _∙_}
 use native.Mathlib.Omega.{arith}
@@ -8,7 +8,7 @@ use Rattle.tray.specs.Holding.{Nth, addedAll}
 use Rattle.tray.specs.Texts.{spelledBy, textOf}
 use Rattle.tray.proofs.BufferLaws.{Spells, length-spelled, spelled-at}
 use Rattle.tray.proofs.Listed.{take-nth}
-use Rattle.tray.proofs.Trays.{Laid, laid-none, laid-more}
+use Rattle.tray.proofs.Trays.{laid-none, laid-more}
 use Rattle.tray.proofs.text.put_lines.Needs as need
 use Rattle.tray.proofs.text.put_lines.Needs.{in-Some, in-rest}
 

@@ -1,5 +1,5 @@
 use Prim.Native.Nat.{ℕ, _≤_}
-use mathlib.Core.Path.{_≡_, refl, sym, ap, _∙_}
+use mathlib.Core.Path.{_≡_, refl, sym, ap, subst, _∙_}
 use native.Mathlib.Omega.{arith}
 use lib.ListN.{length}
 use Rattle.std.specs.declared.result.Result.{Result}
@@ -49,7 +49,8 @@ returns g c =
     let counted = c .in-Continue-triangles .ensures tt .told in
     let before = g .T·Tray .holds (c .args .into .now) in
     let after = g .T·Tray .holds (c .put-lines .last .into) in
-    let list = c .put-lines .ensures .list ∙ ap (addedAll before) (spelled-whole bs n (counted .0) (counted .1) (counted .2)) in
+    let whole = spelled-whole bs n (counted .0) (counted .1) (counted .2) in
+    let list = subst (λ l. after ≡ addedAll before l) whole (c .put-lines .ensures .list) in
     let room : n ≤ before .free = omega (arith, c .free-free .ensures) in
     let told : Read bs before (Ok n) after = (counted .0, counted .1, counted .2, room, list) in
     record { told = told; back = read-back bs before after (Ok n) told; rest = c .put-lines .ensures .rest }
