@@ -1,0 +1,47 @@
+-- What holds of the triangles of the first n cubes, for every scan, every pair and every n. Assumes nothing.
+use mathlib.Core.Path.{_≡_}
+use mathlib.Core.Logic.{_⊎_}
+use mathlib.Core.Bool.{Bool, not}
+use mathlib.Core.List.{List, _++_, map}
+use Prim.Native.Nat.{ℕ, suc, _≤_, _<_}
+use lib.Dec.{T}
+use Rattle.grid.specs.Voxels.{OnBorder}
+use Rattle.grid.specs.Links.{Links, linkNumberOf, next}
+use Rattle.grid.specs.Cubes.{Low, cubeCount, cubeNumber}
+use Rattle.grid.specs.declared.axis.Axis.{Axis}
+use Rattle.grid.specs.declared.link.Link.{Link}
+use Rattle.grid.specs.declared.sides.Sides.{Sides}
+use Rattle.grid.specs.declared.voxel.Voxel.{Voxel}
+use Rattle.cube.specs.Lists.{In, Distinct, some, same}
+use Rattle.cube.specs.Cube.{link-numbers}
+use Rattle.cube.specs.Pairs.{of-solid, of-hollow, swap}
+use Rattle.cube.specs.declared.pair.Pair.{Pair}
+use Rattle.surface.specs.Places.{Solids, link-at, links-of, low-of}
+use Rattle.surface.specs.Laid.{Triangle, laid-at, laid, edges, back, corners, turn-over}
+use Rattle.surface.specs.Joined.{hollow-of, Joined, solid-end, hollow-end, crosses}
+
+-- A law of the triangles of the first n cubes, for every scan, every pair and every n up to the number of cubes.
+abbrev pub Always : (Sides → Pair → Solids → ℕ → Type 0) → Type 0
+Always Law = (s : Sides) (p : Pair) (solid : Solids) (n : ℕ) → n ≤ cubeCount s → Law s p solid n
+
+-- Three different link numbers, as a scan can have them.
+pub record Sound (t : Triangle) : Type 0 where
+  pub below : (t .0 < 50331648) × (t .1 < 50331648) × (t .2 < 50331648)
+  pub different : (t .0 ≡ t .1 → ⊥) × (t .1 ≡ t .2 → ⊥) × (t .2 ≡ t .0 → ⊥)
+
+-- The triangles are laid by the rules: nothing before the first cube, and each cube's after those of the cubes before it.
+-- The cubes come by their numbers, and each triangle has three different link numbers.
+pub record Rule-true (s : Sides) (p : Pair) (solid : Solids) (n : ℕ) : Type 0 where
+  pub low : (c : ℕ) → c < n → Low s (low-of s c)
+  pub number : (c : ℕ) → c < n → cubeNumber s (low-of s c) ≡ c
+  pub next : laid s p solid (suc n) ≡ laid s p solid n ++ laid-at s p solid (low-of s n)
+  pub sound : (t : Triangle) → In t (laid s p solid n) → Sound t
+
+abbrev pub Laid-by-rule : Type 0
+Laid-by-rule = Always Rule-true
+
+-- With solid and hollow exchanged and the pair swapped, the same triangles come in the same order, turned over.
+abbrev pub Mirrored : Type 0
+Mirrored =
+    (s : Sides) (p : Pair) (solid : Solids) (n : ℕ)
+    → laid s (swap p) (hollow-of solid) n ≡ map turn-over (laid s p solid n)

@@ -1,0 +1,4 @@
+pub mod Places
+pub mod Laid
+pub mod Joined
+pub mod Laws

@@ -1,0 +1,6 @@
+// The triangles of the first n cubes of a scan, and the laws that hold of them for every scan, every pair and every n.
+// There is nothing to compute here: each function carries one law on its contract.
+mod laws;
+
+pub use laws::laid_by_rule;
+pub use laws::mirrored;
