@@ -5,3 +5,6 @@ pub mod Offsets
 pub mod Faces
 pub mod Sources
 pub mod Rule
+pub mod Placed
+pub mod Corners
+pub mod Ends

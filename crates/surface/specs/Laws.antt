@@ -45,3 +45,37 @@ abbrev pub Mirrored : Type 0
 Mirrored =
     (s : Sides) (p : Pair) (solid : Solids) (n : ℕ)
     → laid s (swap p) (hollow-of solid) n ≡ map turn-over (laid s p solid n)
+
+-- A link belongs to one of the first n cubes.
+pub record Drawn (s : Sides) (n : ℕ) (k : Link) : Type 0 where
+  pub cube : ℕ
+  pub drawn : cube < n
+  pub link : In k (map (link-at (low-of s cube)) link-numbers)
+
+-- Every link of a drawn cube between a solid and a hollow voxel is a corner of a laid triangle. Every corner is a link
+-- of the scan, and no other link is a corner.
+pub record Cornered (s : Sides) (p : Pair) (solid : Solids) (n : ℕ) : Type 0 where
+  pub every : (k : Link) → Drawn s n k → T (crosses solid k) → In (linkNumberOf s k) (corners (laid s p solid n))
+  pub links : (m : ℕ) → In m (corners (laid s p solid n)) → (k : Link) × Links s k × (m ≡ linkNumberOf s k)
+  pub only : (k : Link) → Links s k → In (linkNumberOf s k) (corners (laid s p solid n)) → Drawn s n k × T (crosses solid k)
+
+abbrev pub All-cornered : Type 0
+All-cornered = Always Cornered
+
+-- The ends of an edge's two links are joined in a cube: the solid ends by steps of the solid's connectedness through
+-- solid voxels of the cube, the hollow ends by steps of the hollow's through hollow ones.
+pub record Ends-joined (s : Sides) (p : Pair) (solid : Solids) (low : Voxel) (e : ℕ × ℕ) : Type 0 where
+  pub from : Link
+  pub to : Link
+  pub of-scan : Links s from × Links s to
+  pub numbers : e ≡ (linkNumberOf s from, linkNumberOf s to)
+  pub solid-ends : Joined (of-solid p) solid low (solid-end solid from) (solid-end solid to)
+  pub hollow-ends : Joined (of-hollow p) (hollow-of solid) low (hollow-end solid from) (hollow-end solid to)
+
+-- Each laid edge is laid by a drawn cube, and in a cube that lays it the ends of its links are joined.
+pub record Joining (s : Sides) (p : Pair) (solid : Solids) (n : ℕ) : Type 0 where
+  pub laid-by : (e : ℕ × ℕ) → In e (edges (laid s p solid n)) → (c : ℕ) × (c < n) × In e (edges (laid-at s p solid (low-of s c)))
+  pub joined : (c : ℕ) → c < n → (e : ℕ × ℕ) → In e (edges (laid-at s p solid (low-of s c))) → Ends-joined s p solid (low-of s c) e
+
+abbrev pub All-joined : Type 0
+All-joined = Always Joining

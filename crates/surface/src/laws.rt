@@ -1,5 +1,5 @@
 // The laws of the whole surface, one to a function; the answer says nothing.
-ghost use Rattle.surface.specs.Laws.{Laid-by-rule, Mirrored};
+ghost use Rattle.surface.specs.Laws.{Laid-by-rule, Mirrored, All-cornered, All-joined};
 
 // The triangles of a cube are those of the rules at its kinds, in three different link numbers each.
 pub fn laid_by_rule()
@@ -9,4 +9,14 @@ pub fn laid_by_rule()
 // Solid and hollow exchanged, with the pair swapped, turn every triangle over.
 pub fn mirrored()
     ensures { λ _. ⌜ Mirrored ⌝ }
+{}
+
+// The corners are the links of drawn cubes between a solid and a hollow voxel.
+pub fn all_cornered()
+    ensures { λ _. ⌜ All-cornered ⌝ }
+{}
+
+// In the cube that laid an edge, the solid ends of its links are joined, and so are the hollow ends.
+pub fn all_joined()
+    ensures { λ _. ⌜ All-joined ⌝ }
 {}

@@ -2,5 +2,7 @@
 // There is nothing to compute here: each function carries one law on its contract.
 mod laws;
 
+pub use laws::all_cornered;
+pub use laws::all_joined;
 pub use laws::laid_by_rule;
 pub use laws::mirrored;
