@@ -8,3 +8,6 @@ pub mod Rule
 pub mod Placed
 pub mod Corners
 pub mod Ends
+pub mod Ways
+pub mod Turned
+pub mod Once

@@ -1,23 +1,19 @@
 -- What holds of the triangles of the first n cubes, for every scan, every pair and every n. Assumes nothing.
 use mathlib.Core.Path.{_≡_}
-use mathlib.Core.Logic.{_⊎_}
-use mathlib.Core.Bool.{Bool, not}
 use mathlib.Core.List.{List, _++_, map}
 use Prim.Native.Nat.{ℕ, suc, _≤_, _<_}
 use lib.Dec.{T}
-use Rattle.grid.specs.Voxels.{OnBorder}
-use Rattle.grid.specs.Links.{Links, linkNumberOf, next}
+use Rattle.grid.specs.Links.{Links, linkNumberOf}
 use Rattle.grid.specs.Cubes.{Low, cubeCount, cubeNumber}
-use Rattle.grid.specs.declared.axis.Axis.{Axis}
 use Rattle.grid.specs.declared.link.Link.{Link}
 use Rattle.grid.specs.declared.sides.Sides.{Sides}
 use Rattle.grid.specs.declared.voxel.Voxel.{Voxel}
-use Rattle.cube.specs.Lists.{In, Distinct, some, same}
+use Rattle.cube.specs.Lists.{In, Distinct}
 use Rattle.cube.specs.Cube.{link-numbers}
 use Rattle.cube.specs.Pairs.{of-solid, of-hollow, swap}
 use Rattle.cube.specs.declared.pair.Pair.{Pair}
-use Rattle.surface.specs.Places.{Solids, link-at, links-of, low-of}
-use Rattle.surface.specs.Laid.{Triangle, laid-at, laid, edges, back, corners, turn-over}
+use Rattle.surface.specs.Places.{Solids, link-at, low-of}
+use Rattle.surface.specs.Laid.{Triangle, laid-at, laid, edges, corners, turn-over}
 use Rattle.surface.specs.Joined.{hollow-of, Joined, solid-end, hollow-end, crosses}
 
 -- A law of the triangles of the first n cubes, for every scan, every pair and every n up to the number of cubes.
@@ -79,3 +75,7 @@ pub record Joining (s : Sides) (p : Pair) (solid : Solids) (n : ℕ) : Type 0 wh
 
 abbrev pub All-joined : Type 0
 All-joined = Always Joining
+
+-- No directed edge is laid twice.
+abbrev pub Laid-once : Type 0
+Laid-once = Always (λ s p solid n. Distinct (edges (laid s p solid n)))

@@ -1,5 +1,5 @@
 // The laws of the whole surface, one to a function; the answer says nothing.
-ghost use Rattle.surface.specs.Laws.{Laid-by-rule, Mirrored, All-cornered, All-joined};
+ghost use Rattle.surface.specs.Laws.{Laid-by-rule, Mirrored, All-cornered, All-joined, Laid-once};
 
 // The triangles of a cube are those of the rules at its kinds, in three different link numbers each.
 pub fn laid_by_rule()
@@ -19,4 +19,9 @@ pub fn all_cornered()
 // In the cube that laid an edge, the solid ends of its links are joined, and so are the hollow ends.
 pub fn all_joined()
     ensures { λ _. ⌜ All-joined ⌝ }
+{}
+
+// No directed edge is laid twice.
+pub fn laid_once()
+    ensures { λ _. ⌜ Laid-once ⌝ }
 {}

@@ -5,4 +5,5 @@ mod laws;
 pub use laws::all_cornered;
 pub use laws::all_joined;
 pub use laws::laid_by_rule;
+pub use laws::laid_once;
 pub use laws::mirrored;
