@@ -11,3 +11,5 @@ pub mod Ends
 pub mod Ways
 pub mod Turned
 pub mod Once
+pub mod Rims
+pub mod Front

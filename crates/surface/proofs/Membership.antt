@@ -4,7 +4,8 @@ use mathlib.Core.Logic.{_⊎_, inl, inr, ⊎-elim}
 use mathlib.Core.Bool.{Bool, true, false}
 use mathlib.Core.List.{List, [], _∷_, _++_, map, append-assoc}
 use lib.Dec.{T}
-use Rattle.cube.specs.Lists.{gather, keep, In, Distinct}
+use Rattle.cube.specs.Lists.{gather, keep, some, In, Distinct}
+use Rattle.cube.proofs.Listed.{or-left, or-right}
 
 -- A test passes or it does not.
 pub decide : (b : Bool) → T b ⊎ (T b → ⊥)
@@ -54,6 +55,12 @@ module _ {A : Type 0} where
       go true e (inr j) rest = inr (rest j)
       go false e (inl q) rest = absurd (subst T e (subst (λ z. T (f z)) q t))
       go false e (inr j) rest = rest j
+
+  -- A test that one element passes is passed by some.
+  pub some-in : (f : A → Bool) (x : A) (xs : List A) → In x xs → T (f x) → T (some f xs)
+  some-in f x [] i t = absurd i
+  some-in f x (y ∷ ys) (inl e) t = or-left (f y) (some f ys) (subst (λ z. T (f z)) e t)
+  some-in f x (y ∷ ys) (inr i) t = or-right (f y) (some f ys) (some-in f x ys i t)
 
   -- A fact for each element of a list, and what it says of one.
   abbrev pub All : (A → Type 0) → List A → Type 0

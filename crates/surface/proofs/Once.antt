@@ -56,22 +56,21 @@ module _ (s : Sides) (p : Pair) (solids : Solids) where
         λ n. (sym first n, sym second n),
       )
 
-  -- Two cubes that have both links of an edge of the first are one, or a way leads from the first through the face that holds the edge.
-  pub neighbours : (u v : Voxel) → Low s u → Low s v → (d : ℕ × ℕ) → In d (cube-edges (inner s p solids u))
-      → (e : ℕ × ℕ) → In (e .0) link-numbers × In (e .1) link-numbers → edge-at s u d ≡ edge-at s v e → (u ≡ v → ⊥)
+  -- Two different cubes that have the same two links are neighbours through the face that holds both.
+  pub neighbours : (u v : Voxel) → Low s u → Low s v → (u ≡ v → ⊥) → (d e : ℕ × ℕ) → In (d .0) link-numbers × In (d .1) link-numbers
+      → In (e .0) link-numbers × In (e .1) link-numbers → (d .0 ≡ d .1 → ⊥) → edge-at s u d ≡ edge-at s v e
       → (w : Way) × Related (offset-of w) u v × T (on-face (d .0) (d .1) (face-of w))
-  neighbours u v hu hv d i e j q two =
-      let l = links-in u d i in
-      ⊎-elim (λ same. absurd (two same)) (λ r. r)
-      (meeting u v (d .0) (e .0) (d .1) (e .1) (l .0) (j .0) (l .1) (j .1)
+  neighbours u v hu hv other d e i j two q =
+      ⊎-elim (λ same. absurd (other same)) (λ r. r)
+      (meeting u v (d .0) (e .0) (d .1) (e .1) (i .0) (j .0) (i .1) (j .1)
       (number-same s u v hu hv (d .0) (e .0) (ap (λ n. n .0) q))
-      (number-same s u v hu hv (d .1) (e .1) (ap (λ n. n .1) q)) (edge-differs p (kinds-at solids u) d i))
+      (number-same s u v hu hv (d .1) (e .1) (ap (λ n. n .1) q)) two)
 
   -- Two cubes lay no edge both.
   pub not-twice : (u v : Voxel) → Low s u → Low s v → (u ≡ v → ⊥) → (d e : ℕ × ℕ) → In d (cube-edges (inner s p solids u))
       → In e (cube-edges (inner s p solids v)) → edge-at s u d ≡ edge-at s v e → ⊥
   not-twice u v hu hv two d e i j q =
-      let n = neighbours u v hu hv d i e (links-in v e j) q two in
+      let n = neighbours u v hu hv two d e (links-in u d i) (links-in v e j) (edge-differs p (kinds-at solids u) d i) q in
       let f = face-of (n .0) in
       let a = laid-across (n .0) u v (n .1) d (lawful p (kinds-at solids u) .on-graph d i f (face-in (n .0)) (n .2)) in
       let g = a .0 in

@@ -2,3 +2,4 @@ pub mod Places
 pub mod Laid
 pub mod Joined
 pub mod Laws
+pub mod Fronts

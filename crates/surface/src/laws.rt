@@ -1,4 +1,5 @@
 // The laws of the whole surface, one to a function; the answer says nothing.
+ghost use Rattle.surface.specs.Fronts.{Open-at-front, Closed};
 ghost use Rattle.surface.specs.Laws.{Laid-by-rule, Mirrored, All-cornered, All-joined, Laid-once};
 
 // The triangles of a cube are those of the rules at its kinds, in three different link numbers each.
@@ -24,4 +25,14 @@ pub fn all_joined()
 // No directed edge is laid twice.
 pub fn laid_once()
     ensures { λ _. ⌜ Laid-once ⌝ }
+{}
+
+// With a border of one kind, the reverse of a laid edge is missing just on the faces between drawn and undrawn cubes.
+pub fn open_at_front()
+    ensures { λ _. ⌜ Open-at-front ⌝ }
+{}
+
+// With a border of one kind and all cubes drawn, no reverse is missing.
+pub fn closed()
+    ensures { λ _. ⌜ Closed ⌝ }
 {}
