@@ -1,0 +1,15 @@
+pub mod Membership
+pub mod Numbered
+pub mod Mirror
+pub mod Offsets
+pub mod Faces
+pub mod Sources
+pub mod Rule
+pub mod Placed
+pub mod Corners
+pub mod Ends
+pub mod Ways
+pub mod Turned
+pub mod Once
+pub mod Rims
+pub mod Front

@@ -1,0 +1,5 @@
+pub mod Places
+pub mod Laid
+pub mod Joined
+pub mod Laws
+pub mod Fronts
