@@ -16,7 +16,7 @@ use Rattle.cube.specs.declared.pair.Pair.the-variants.{S18H6, S26H6, S6H18, S6
 use Rattle.cube.specs.declared.triangle.CubeTriangle.{CubeTriangle}
 
 -- The loops cut one after the other.
-abbrev pub cut-all : Connectedness → Kinds → List CubeTriangle
+unfoldable pub cut-all : Connectedness → Kinds → List CubeTriangle
 cut-all s k =
     let es = graph s k in
     let w = body k in
@@ -53,7 +53,7 @@ tube (a ∷ b ∷ rest) = side a b ++ side b a
 abbrev pub turn-over : CubeTriangle → CubeTriangle
 turn-over t = triangle (t .0) (t .2) (t .1)
 
-abbrev pub with-tube : Kinds → List CubeTriangle
+unfoldable pub with-tube : Kinds → List CubeTriangle
 with-tube k = elim (opposite k) [ true ↦ tube (loops TwentySix k) | false ↦ cut-all TwentySix k ]
 
 -- The triangles of a cube. Where solid is 6-connected they are those of the exchanged cube under the swapped pair, turned over.
