@@ -24,12 +24,12 @@ pub fn show(rt: &LibcRuntime) -> Result<(), AnyError> {
     let mut text = TextTray::new(blank(rt.alloc(), 60)?);
     let poured = pour(&records, &mut text);
     let free = text.free();
-    println!(rt, "  {poured} went over, {free} places are free")?;
+    println!(rt, "  {poured} went over, free places: {free}")?;
     rt.stdout().write_all(text.text())?;
     text.empty();
     let held = text.held();
     let free = text.free();
-    println!(rt, "  emptied: {held} held, {free} places are free")?;
+    println!(rt, "  emptied: {held} held, free places: {free}")?;
     Ok(())
 }
 
@@ -46,7 +46,7 @@ fn put<T: Tray>(rt: &LibcRuntime, tray: &mut T, p: u32, q: u32, r: u32) -> Resul
     match tray.put(triangle) {
         Ok(_) => {
             let free = tray.free();
-            println!(rt, "  ({p},{q},{r}): put in, {free} places are free")?;
+            println!(rt, "  ({p},{q},{r}): put in, free places: {free}")?;
         }
         Err(_) => println!(rt, "  ({p},{q},{r}): turned away, the tray is full")?,
     }
