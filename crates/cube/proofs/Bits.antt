@@ -12,7 +12,7 @@ use Rattle.cube.proofs.Listed.{every-at}
 use Rattle.cube.specs.Everywhere.{all-kinds}
 use Rattle.cube.proofs.Everywhere.{everywhere}
 use Rattle.cube.proofs.Masks.{at}
-use Rattle.cube.proofs.Closed.{solid-voxel}
+use Rattle.cube.proofs.Voxels.{solid-voxel}
 
 abbrev agree : Bool → Bool → Bool
 agree true b = b

@@ -2,11 +2,10 @@ pub mod Masks
 pub mod Listed
 pub mod Reached
 pub mod Everywhere
-pub mod Closed
+pub mod Voxels
 pub mod Sound
 pub mod Computed
 pub mod Lawful
-pub mod Looped
 pub mod Bits
 pub mod Six
 pub mod Tubed

@@ -2,3 +2,5 @@ pub mod Trails
 pub mod Found
 pub mod Led
 pub mod Marks
+pub mod Closed
+pub mod Looped

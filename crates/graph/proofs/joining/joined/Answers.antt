@@ -6,7 +6,8 @@ use lib.Dec.{T, ltb, ltb→lt}
 use lib.ListN.{getD}
 use Rattle.cube.specs.Cube.{kinds}
 use Rattle.cube.specs.Joined.{Joined, reached}
-use Rattle.cube.proofs.Closed.{joined-reached, ends, voxel-below}
+use Rattle.cube.proofs.Voxels.{voxel-below}
+use Rattle.graph.proofs.Closed.{joined-reached, ends}
 use Rattle.cube.proofs.Reached.{reached-joined}
 use Rattle.graph.proofs.joining.joined.Needs as need
 

@@ -10,7 +10,7 @@ use Rattle.cube.specs.Graph.{graph}
 use Rattle.cube.specs.Laws.{Looped}
 use Rattle.cube.specs.Loops.{loop-from, loops-of}
 use Rattle.graph.proofs.Found.{loops-past, past-level, past-higher, past-lowest, past-all, push-read, read-on}
-use Rattle.cube.proofs.Looped.{looped}
+use Rattle.graph.proofs.Looped.{looped}
 use Rattle.graph.proofs.trace.loops.Needs as need
 use Rattle.graph.proofs.trace.loops.Needs.{then-carries-corner·in-Continue-corners·then-none-below·in-Continue-push, then-carries-corner·in-Continue-corners·else-none-below, else-carries-corner}
 

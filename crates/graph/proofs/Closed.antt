@@ -1,21 +1,20 @@
 -- Seven steps reach everything that is joined. Assumes nothing.
-use mathlib.Core.Path.{refl}
-use mathlib.Core.Logic.{inl, inr}
 use mathlib.Core.Bool.{Bool, true, false}
 use mathlib.Core.List.{List}
-use Prim.Native.Nat.{ℕ, zero, suc, _<_}
-use lib.Dec.{T, leb, le→leb, ltb, ltb→lt}
+use Prim.Native.Nat.{ℕ}
+use lib.Dec.{T, leb, le→leb}
 use lib.ListN.{getD}
-use Rattle.cube.specs.Lists.{every, In}
+use Rattle.cube.specs.Lists.{every}
 use Rattle.cube.specs.Cube.{Kinds, solid, voxels}
 use Rattle.cube.specs.Pairs.{Connected, apart, reach}
 use Rattle.cube.specs.Joined.{Joined, one, step, connected, reached}
 use Rattle.cube.specs.Rows.{both}
 use Rattle.cube.specs.declared.pair.Connectedness.{Connectedness}
 use Rattle.cube.specs.declared.pair.Connectedness.the-variants.{Six, Eighteen, TwentySix}
 use Rattle.cube.proofs.Listed.{when, every-at, both-left, both-right, and-both}
 use Rattle.cube.specs.Everywhere.{all-kinds}
 use Rattle.cube.proofs.Everywhere.{everywhere}
+use Rattle.cube.proofs.Voxels.{solid-voxel}
 
 -- Marks are closed at b: where b is marked, so is each solid voxel d that is connected to it.
 abbrev passes-on : Connectedness → Kinds → List Bool → ℕ → ℕ → Bool
@@ -48,21 +47,6 @@ always-full : (c : Connectedness) → T (all-kinds (all-full c))
 always-full Six = full-6
 always-full Eighteen = full-18
 always-full TwentySix = full-26
-
--- A solid voxel is one of the eight.
-pub solid-voxel : (k : Kinds) (i : ℕ) → T (solid k i) → In i voxels
-solid-voxel k zero t = inl refl
-solid-voxel k (suc zero) t = inr (inl refl)
-solid-voxel k (suc (suc zero)) t = inr (inr (inl refl))
-solid-voxel k (suc (suc (suc zero))) t = inr (inr (inr (inl refl)))
-solid-voxel k (suc (suc (suc (suc zero)))) t = inr (inr (inr (inr (inl refl))))
-solid-voxel k (suc (suc (suc (suc (suc zero))))) t = inr (inr (inr (inr (inr (inl refl)))))
-solid-voxel k (suc (suc (suc (suc (suc (suc zero)))))) t = inr (inr (inr (inr (inr (inr (inl refl))))))
-solid-voxel k (suc (suc (suc (suc (suc (suc (suc zero))))))) t = inr (inr (inr (inr (inr (inr (inr (inl refl)))))))
-solid-voxel k (suc (suc (suc (suc (suc (suc (suc (suc i)))))))) t = absurd t
-
-pub voxel-below : (k : Kinds) (i : ℕ) → T (solid k i) → i < 8
-voxel-below k i t = ltb→lt i 8 (every-at (λ j. ltb j 8) voxels tt i (solid-voxel k i t))
 
 is-connected : (c : Connectedness) (i j : ℕ) → Connected c i j → T (connected c i j)
 is-connected c i j h =
