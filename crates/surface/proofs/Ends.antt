@@ -22,7 +22,7 @@ use Rattle.surface.specs.Places.{Solids, onward, voxel-at, kinds-at, link-at, 
 use Rattle.surface.specs.Laid.{edges-of}
 use Rattle.surface.specs.Joined.{hollow-of, apart, Close, Connected, Within, Joined, one, step, solid-end, hollow-end}
 use Rattle.surface.specs.Laws.{Ends-joined, All-joined}
-use Rattle.surface.proofs.Numbered.{onward-least, onward-most, low-is, links-at}
+use Rattle.surface.proofs.Numbered.{onward-least, onward-most, within-at, low-is, links-at}
 use Rattle.surface.proofs.Placed.{kind-at, solid-end-at, hollow-end-at}
 use Rattle.surface.proofs.Faces.{edge-links}
 use Rattle.surface.proofs.Sources.{inner, edge-at, part-from, edge-in}
@@ -78,21 +78,14 @@ module _ (u : Voxel) where
         few = subst (λ n. n ≤ reach c) (sym (apart-at i j)) (h .1);
       }
 
-  within-at : (i : ℕ) → Within u (voxel-at u i)
-  within-at i = (
-    (onward-least (dx i) (u .x), onward-most (dx i) (u .x)),
-    (onward-least (dy i) (u .y), onward-most (dy i) (u .y)),
-    (onward-least (dz i) (u .z), onward-most (dz i) (u .z)),
-  )
-
   -- Voxels joined in a cube are joined where they lie in the scan.
   module _ (c : Connectedness) (solids : Solids) (a : ℕ) where
     solid-at : (i : ℕ) → T (solid (kinds-at solids u) i) → T (solids (voxel-at u i))
     solid-at i t = subst T (kind-at solids u i (solid-voxel (kinds-at solids u) i t)) t
 
     joined-at : {b : ℕ} → Cube-joined c (kinds-at solids u) a b → Joined c solids u (voxel-at u a) (voxel-at u b)
-    joined-at (cube-one t) = one (within-at a) (solid-at a t)
-    joined-at (cube-step {b} {d} j h t) = step (joined-at j) (connected-at c b d h) (within-at d) (solid-at d t)
+    joined-at (cube-one t) = one (within-at u a) (solid-at a t)
+    joined-at (cube-step {b} {d} j h t) = step (joined-at j) (connected-at c b d h) (within-at u d) (solid-at d t)
 
 module _ (s : Sides) (p : Pair) (solids : Solids) (u : Voxel) (h : Low s u) where
   ends-of : (d : ℕ × ℕ) → In d (cube-edges (inner s p solids u)) → Ends-joined s p solids u (edge-at s u d)

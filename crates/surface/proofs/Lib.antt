@@ -6,6 +6,7 @@ pub mod Faces
 pub mod Sources
 pub mod Rule
 pub mod Placed
+pub mod Placement
 pub mod Corners
 pub mod Ends
 pub mod Ways

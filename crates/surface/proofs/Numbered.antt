@@ -16,6 +16,7 @@ use Rattle.grid.proofs.Numbered.{inside-low, cube-numbered, link-unique, link-n
 use Rattle.cube.specs.Lists.{In}
 use Rattle.cube.specs.Cube.{dx, dy, dz, lower, upper, link-numbers}
 use Rattle.surface.specs.Places.{onward, voxel-at, link-at, number-at, low-of}
+use Rattle.surface.specs.Joined.{Within}
 use Rattle.surface.proofs.Membership.{All, all-at}
 
 -- A coordinate of a voxel of a cube is that of the low voxel or the next.
@@ -26,6 +27,14 @@ onward-least (suc d) x = omega arith
 pub onward-most : (d x : ℕ) → onward d x ≤ suc x
 onward-most zero x = omega arith
 onward-most (suc d) x = omega arith
+
+-- The voxels of a cube lie within it.
+pub within-at : (u : Voxel) (i : ℕ) → Within u (voxel-at u i)
+within-at u i = (
+  (onward-least (dx i) (u .x), onward-most (dx i) (u .x)),
+  (onward-least (dy i) (u .y), onward-most (dy i) (u .y)),
+  (onward-least (dz i) (u .z), onward-most (dz i) (u .z)),
+)
 
 -- The voxel one further along an axis, with the next coordinate written as a successor.
 abbrev pub after : Axis → Voxel → Voxel

@@ -10,7 +10,7 @@ use Rattle.grid.specs.Cubes.{Low, cubeCount}
 use Rattle.grid.specs.declared.sides.Sides.{Sides}
 use Rattle.grid.specs.declared.voxel.Voxel.{Voxel}
 use Rattle.cube.specs.Lists.{In, Distinct}
-use Rattle.cube.specs.Cube.{link-numbers}
+use Rattle.cube.specs.Cube.{Face, faces, link-numbers}
 use Rattle.cube.specs.Pairs.{of-solid}
 use Rattle.cube.specs.Graph.{graph-on}
 use Rattle.cube.specs.Cutting.{on-face}
@@ -73,12 +73,15 @@ module _ (s : Sides) (p : Pair) (solids : Solids) where
       let n = neighbours u v hu hv two d e (links-in u d i) (links-in v e j) (edge-differs p (kinds-at solids u) d i) q in
       let f = face-of (n .0) in
       let a = laid-across (n .0) u v (n .1) d (lawful p (kinds-at solids u) .on-graph d i f (face-in (n .0)) (n .2)) in
-      let g = a .0 in
-      let le = links-in v e j in
-      let lg = links-in v g (a .2) in
-      let same : e ≡ (g .1, g .0) = edge-once v hv e (g .1, g .0) le (lg .1, lg .0) (sym q ∙ sym (ap back (a .3))) in
-      one-way p (kinds-at solids v) (face-of (over (n .0))) (face-in (over (n .0))) g (a .1)
-      (subst (λ x. In x (cube-edges (inner s p solids v))) same j)
+      refuted (face-of (over (n .0))) (face-in (over (n .0))) (a .0) (a .1) (a .2) (sym q ∙ sym (ap back (a .3)))
+    where
+      refuted : (f : Face) → In f faces → (g : ℕ × ℕ) → In g (graph-on (of-solid p) (kinds-at solids v) f)
+          → In g (cube-edges (inner s p solids v)) → edge-at s v e ≡ edge-at s v (back g) → ⊥
+      refuted f hf g on drawn r =
+          let le = links-in v e j in
+          let lg = links-in v g drawn in
+          let same : e ≡ back g = edge-once v hv e (back g) le (lg .1, lg .0) r in
+          one-way p (kinds-at solids v) f hf g on (subst (λ x. In x (cube-edges (inner s p solids v))) same j)
 
   once-at : (u : Voxel) → Low s u → Distinct (edges (laid-at s p solids u))
   once-at u h =
