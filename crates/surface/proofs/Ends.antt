@@ -1,16 +1,14 @@
 -- The ends of the links of an edge are joined in the cube that laid it. Assumes nothing.
 use mathlib.Core.Path.{_≡_, refl, sym, ap, ap₂, subst, _∙_}
 use mathlib.Core.Bool.{Bool, true, false}
-use mathlib.Core.List.{List}
 use Prim.Native.Nat.{ℕ, zero, suc, _+_, _≤_, _<_}
 use native.Mathlib.Omega.{arith}
 use lib.Dec.{T, eqb, eqb→eq, eqb-refl, eqb·zero-suc, eqb·suc-zero}
-use Rattle.grid.specs.Links.{linkNumberOf}
 use Rattle.grid.specs.Cubes.{Low, cubeCount}
 use Rattle.grid.specs.declared.sides.Sides.{Sides}
 use Rattle.grid.specs.declared.voxel.Voxel.{Voxel}
 use Rattle.cube.specs.Lists.{In}
-use Rattle.cube.specs.Cube.{Kinds, dx, dy, dz, exchange, solid}
+use Rattle.cube.specs.Cube.{dx, dy, dz, solid}
 use Rattle.cube.specs.Pairs.{of-solid, of-hollow, differ, reach, apart as cube-apart, Connected as Cube-connected}
 use Rattle.cube.specs.Joined.{Joined as Cube-joined, one as cube-one, step as cube-step}
 use Rattle.cube.specs.Laws.{edges as cube-edges, solid-end as cube-solid-end, hollow-end as cube-hollow-end}
@@ -20,10 +18,10 @@ use Rattle.cube.proofs.Closed.{solid-voxel}
 use Rattle.cube.proofs.Lawful.{lawful}
 use Rattle.surface.specs.Places.{Solids, onward, voxel-at, kinds-at, link-at, low-of}
 use Rattle.surface.specs.Laid.{edges-of}
-use Rattle.surface.specs.Joined.{hollow-of, apart, Close, Connected, Within, Joined, one, step, solid-end, hollow-end}
+use Rattle.surface.specs.Joined.{hollow-of, apart, Close, Connected, Joined, one, step, solid-end, hollow-end}
 use Rattle.surface.specs.Laws.{Ends-joined, All-joined}
 use Rattle.surface.proofs.Numbered.{onward-least, onward-most, within-at, low-is, links-at}
-use Rattle.surface.proofs.Placed.{kind-at, solid-end-at, hollow-end-at}
+use Rattle.surface.proofs.KindsAt.{kind-at, solid-end-at, hollow-end-at}
 use Rattle.surface.proofs.Faces.{edge-links}
 use Rattle.surface.proofs.Sources.{inner, edge-at, part-from, edge-in}
 

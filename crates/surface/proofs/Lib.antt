@@ -5,7 +5,7 @@ pub mod Offsets
 pub mod Faces
 pub mod Sources
 pub mod Rule
-pub mod Placed
+pub mod KindsAt
 pub mod Placement
 pub mod Corners
 pub mod Ends

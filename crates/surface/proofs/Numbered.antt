@@ -1,11 +1,10 @@
 -- The cubes of a scan by their numbers, and their links by theirs. Assumes nothing.
 use mathlib.Core.Path.{_≡_, refl, sym, ap, subst, _∙_}
-use mathlib.Core.List.{List, [], _∷_}
 use Prim.Native.Nat.{ℕ, zero, suc, _+_, _-_, _≤_, _<_}
 use native.Mathlib.Numerals.{add-one}
 use native.Mathlib.Omega.{arith}
 use Rattle.grid.specs.Voxels.{Holds}
-use Rattle.grid.specs.Links.{Links, next, upperOf, linkNumberOf}
+use Rattle.grid.specs.Links.{Links, next, upperOf}
 use Rattle.grid.specs.Cubes.{Low, cubeCount, cubeNumber}
 use Rattle.grid.specs.declared.axis.Axis.{Axis}
 use Rattle.grid.specs.declared.axis.Axis.the-variants.{X, Y, Z}
@@ -17,7 +16,7 @@ use Rattle.cube.specs.Lists.{In}
 use Rattle.cube.specs.Cube.{dx, dy, dz, lower, upper, link-numbers}
 use Rattle.surface.specs.Places.{onward, voxel-at, link-at, number-at, low-of}
 use Rattle.surface.specs.Joined.{Within}
-use Rattle.surface.proofs.Membership.{All, all-at}
+use Rattle.surface.proofs.Membership.{all-at}
 
 -- A coordinate of a voxel of a cube is that of the low voxel or the next.
 pub onward-least : (d x : ℕ) → x ≤ onward d x

@@ -1,7 +1,6 @@
 -- No directed edge is laid twice. Assumes nothing.
-use mathlib.Core.Path.{_≡_, refl, sym, ap, subst, _∙_}
-use mathlib.Core.Logic.{_⊎_, inl, inr, ⊎-elim}
-use mathlib.Core.List.{List, [], _∷_, _++_, map}
+use mathlib.Core.Path.{_≡_, sym, ap, subst, _∙_}
+use mathlib.Core.Logic.{⊎-elim}
 use Prim.Native.Nat.{ℕ, zero, suc, _≤_, _<_}
 use native.Mathlib.Omega.{arith}
 use lib.Dec.{T}
@@ -17,7 +16,7 @@ use Rattle.cube.specs.Cutting.{on-face}
 use Rattle.cube.specs.Laws.{edges as cube-edges}
 use Rattle.cube.specs.declared.pair.Pair.{Pair}
 use Rattle.cube.proofs.Lawful.{lawful}
-use Rattle.surface.specs.Places.{Solids, kinds-at, link-at, number-at, low-of}
+use Rattle.surface.specs.Places.{Solids, kinds-at, low-of}
 use Rattle.surface.specs.Laid.{laid-at, laid, edges-of, edges, back}
 use Rattle.surface.specs.Laws.{Laid-once}
 use Rattle.surface.proofs.Membership.{distinct-both, distinct-map, gather-both}

@@ -1,8 +1,8 @@
 -- The voxels and the links of a cube lie where its low voxel says. Assumes nothing.
 use mathlib.Core.Path.{_≡_, refl, sym, subst}
 use mathlib.Core.Logic.{_⊎_, inl, inr, ⊎-elim}
-use mathlib.Core.List.{List, map}
-use Prim.Native.Nat.{ℕ, zero, suc, _+_, _≤_, _<_}
+use mathlib.Core.List.{map}
+use Prim.Native.Nat.{ℕ, zero, suc, _+_, _<_}
 use native.Mathlib.Nat.{eq-or-lt-of-le}
 use native.Mathlib.Omega.{arith}
 use lib.Dec.{T, eqb, eqb→eq}
@@ -20,7 +20,7 @@ use Rattle.surface.specs.Joined.{Spans, Within}
 use Rattle.surface.specs.Placing.{further, All-placed}
 use Rattle.surface.proofs.Membership.{in-map, map-in}
 use Rattle.surface.proofs.Numbered.{upper-at, within-at}
-use Rattle.surface.proofs.Placed.{kind-at}
+use Rattle.surface.proofs.KindsAt.{kind-at}
 
 -- A step of 0 or 1 is added to a coordinate.
 added : (d x : ℕ) → d < 2 → onward d x ≡ x + d

@@ -1,8 +1,7 @@
 -- Across each face of a cube lies a cube of the scan, or the face lies on the scan's border. Assumes nothing.
-use mathlib.Core.Path.{_≡_, refl, sym, ap, subst, _∙_}
+use mathlib.Core.Path.{_≡_, refl, _∙_}
 use mathlib.Core.Logic.{_⊎_, inl, inr, ⊎-elim}
-use mathlib.Core.Bool.{Bool}
-use mathlib.Core.List.{List, [], _∷_}
+use mathlib.Core.List.{[]}
 use Prim.Native.Nat.{ℕ, zero, suc, _+_, _≤_, _<_}
 use native.Mathlib.Nat.{eq-or-lt-of-le}
 use native.Mathlib.Omega.{arith}
@@ -11,8 +10,6 @@ use Rattle.grid.specs.Cubes.{Low}
 use Rattle.grid.specs.declared.axis.Axis.the-variants.{X, Y, Z}
 use Rattle.grid.specs.declared.sides.Sides.{Sides}
 use Rattle.grid.specs.declared.voxel.Voxel.{Voxel}
-use Rattle.cube.specs.Lists.{In}
-use Rattle.cube.specs.Cube.{Face}
 use Rattle.cube.specs.Graph.{graph-on}
 use Rattle.cube.specs.declared.pair.Connectedness.{Connectedness}
 use Rattle.surface.specs.Places.{Solids, voxel-at, kinds-at}

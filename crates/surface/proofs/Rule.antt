@@ -1,15 +1,14 @@
 -- The cubes come by their numbers, and their triangles have three different link numbers. Assumes nothing.
-use mathlib.Core.Path.{_≡_, refl, sym, ap, subst, _∙_}
+use mathlib.Core.Path.{_≡_, refl, sym, ap, subst}
 use mathlib.Core.Logic.{inl, inr}
-use mathlib.Core.List.{List, _++_}
-use Prim.Native.Nat.{ℕ, _+_, _≤_, _<_}
+use mathlib.Core.List.{_++_}
+use Prim.Native.Nat.{ℕ, _+_, _<_}
 use native.Mathlib.Numerals.{add-one}
 use native.Mathlib.Omega.{arith}
 use Rattle.grid.specs.Cubes.{Low, cubeCount}
 use Rattle.grid.specs.declared.sides.Sides.{Sides}
 use Rattle.grid.specs.declared.voxel.Voxel.{Voxel}
 use Rattle.cube.specs.Lists.{In}
-use Rattle.cube.specs.Cube.{link-numbers}
 use Rattle.cube.specs.Laws.{edges as cube-edges}
 use Rattle.cube.specs.declared.pair.Pair.{Pair}
 use Rattle.cube.specs.declared.triangle.CubeTriangle.{CubeTriangle}

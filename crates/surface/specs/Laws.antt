@@ -1,6 +1,6 @@
 -- What holds of the triangles of the first n cubes, for every scan, every pair and every n. Assumes nothing.
 use mathlib.Core.Path.{_≡_}
-use mathlib.Core.List.{List, [], _++_, map}
+use mathlib.Core.List.{[], _++_, map}
 use Prim.Native.Nat.{ℕ, suc, _≤_, _<_}
 use lib.Dec.{T}
 use Rattle.grid.specs.Links.{Links, linkNumberOf}
