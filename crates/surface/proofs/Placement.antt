@@ -54,27 +54,28 @@ link-same a p q r n = link (p n) (q n) (r n) a
 
 module _ (low : Voxel) where
   -- A link that is link l of the cube is among its links.
-  put : (l : ℕ) → T (some (eqb l) link-numbers) → (k : Link) → k ≡ link-at low l → In k (map (link-at low) link-numbers)
-  put l t k e =
+  put : (l : ℕ) → T (some (eqb l) link-numbers) → (v : Voxel) (a : Axis) → link (v .x) (v .y) (v .z) a ≡ link-at low l
+      → In (link (v .x) (v .y) (v .z) a) (map (link-at low) link-numbers)
+  put l t v a e =
       subst (λ j. In j (map (link-at low) link-numbers)) (sym e)
       (in-map (link-at low) l link-numbers (found eqb eqb→eq l link-numbers t))
 
   among-links : (v : Voxel) (a : Axis) → Within low v → Within low (upperOf (record { lower = v; axis = a }))
-      → In (record { lower = v; axis = a }) (map (link-at low) link-numbers)
+      → In (link (v .x) (v .y) (v .z) a) (map (link-at low) link-numbers)
   among-links v X h k =
       let x = first-of (low .x) (v .x) (h .0) (k .0) in
-      ⊎-elim (λ y. ⊎-elim (λ z. put 0 tt (link (v .x) (v .y) (v .z) X) (link-same X x y z)) (λ z. put 2 tt (link (v .x) (v .y) (v .z) X) (link-same X x y z)) (either-of (low .z) (v .z) (h .2)))
-      (λ y. ⊎-elim (λ z. put 1 tt (link (v .x) (v .y) (v .z) X) (link-same X x y z)) (λ z. put 3 tt (link (v .x) (v .y) (v .z) X) (link-same X x y z)) (either-of (low .z) (v .z) (h .2)))
+      ⊎-elim (λ y. ⊎-elim (λ z. put 0 tt v X (link-same X x y z)) (λ z. put 2 tt v X (link-same X x y z)) (either-of (low .z) (v .z) (h .2)))
+      (λ y. ⊎-elim (λ z. put 1 tt v X (link-same X x y z)) (λ z. put 3 tt v X (link-same X x y z)) (either-of (low .z) (v .z) (h .2)))
       (either-of (low .y) (v .y) (h .1))
   among-links v Y h k =
       let y = first-of (low .y) (v .y) (h .1) (k .1) in
-      ⊎-elim (λ x. ⊎-elim (λ z. put 4 tt (link (v .x) (v .y) (v .z) Y) (link-same Y x y z)) (λ z. put 6 tt (link (v .x) (v .y) (v .z) Y) (link-same Y x y z)) (either-of (low .z) (v .z) (h .2)))
-      (λ x. ⊎-elim (λ z. put 5 tt (link (v .x) (v .y) (v .z) Y) (link-same Y x y z)) (λ z. put 7 tt (link (v .x) (v .y) (v .z) Y) (link-same Y x y z)) (either-of (low .z) (v .z) (h .2)))
+      ⊎-elim (λ x. ⊎-elim (λ z. put 4 tt v Y (link-same Y x y z)) (λ z. put 6 tt v Y (link-same Y x y z)) (either-of (low .z) (v .z) (h .2)))
+      (λ x. ⊎-elim (λ z. put 5 tt v Y (link-same Y x y z)) (λ z. put 7 tt v Y (link-same Y x y z)) (either-of (low .z) (v .z) (h .2)))
       (either-of (low .x) (v .x) (h .0))
   among-links v Z h k =
       let z = first-of (low .z) (v .z) (h .2) (k .2) in
-      ⊎-elim (λ x. ⊎-elim (λ y. put 8 tt (link (v .x) (v .y) (v .z) Z) (link-same Z x y z)) (λ y. put 10 tt (link (v .x) (v .y) (v .z) Z) (link-same Z x y z)) (either-of (low .y) (v .y) (h .1)))
-      (λ x. ⊎-elim (λ y. put 9 tt (link (v .x) (v .y) (v .z) Z) (link-same Z x y z)) (λ y. put 11 tt (link (v .x) (v .y) (v .z) Z) (link-same Z x y z)) (either-of (low .y) (v .y) (h .1)))
+      ⊎-elim (λ x. ⊎-elim (λ y. put 8 tt v Z (link-same Z x y z)) (λ y. put 10 tt v Z (link-same Z x y z)) (either-of (low .y) (v .y) (h .1)))
+      (λ x. ⊎-elim (λ y. put 9 tt v Z (link-same Z x y z)) (λ y. put 11 tt v Z (link-same Z x y z)) (either-of (low .y) (v .y) (h .1)))
       (either-of (low .x) (v .x) (h .0))
 
   ends-within : (k : Link) → In k (map (link-at low) link-numbers) → Within low (k .lower) × Within low (upperOf k)
