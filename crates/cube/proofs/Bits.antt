@@ -9,7 +9,8 @@ use Rattle.cube.specs.Lists.{every, In}
 use Rattle.cube.specs.Cube.{Kinds, solid, exchange, bit, kinds, voxels}
 use Rattle.cube.specs.Rows.{passes}
 use Rattle.cube.proofs.Listed.{every-at}
-use Rattle.cube.proofs.Everywhere.{all-kinds, everywhere}
+use Rattle.cube.specs.Everywhere.{all-kinds}
+use Rattle.cube.proofs.Everywhere.{everywhere}
 use Rattle.cube.proofs.Masks.{at}
 use Rattle.cube.proofs.Closed.{solid-voxel}
 

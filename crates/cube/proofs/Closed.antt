@@ -3,8 +3,8 @@ use mathlib.Core.Path.{refl}
 use mathlib.Core.Logic.{inl, inr}
 use mathlib.Core.Bool.{Bool, true, false}
 use mathlib.Core.List.{List}
-use Prim.Native.Nat.{ℕ, zero, suc}
-use lib.Dec.{T, leb, le→leb}
+use Prim.Native.Nat.{ℕ, zero, suc, _<_}
+use lib.Dec.{T, leb, le→leb, ltb, ltb→lt}
 use lib.ListN.{getD}
 use Rattle.cube.specs.Lists.{every, In}
 use Rattle.cube.specs.Cube.{Kinds, solid, voxels}
@@ -14,7 +14,8 @@ use Rattle.cube.specs.Rows.{both}
 use Rattle.cube.specs.declared.pair.Connectedness.{Connectedness}
 use Rattle.cube.specs.declared.pair.Connectedness.the-variants.{Six, Eighteen, TwentySix}
 use Rattle.cube.proofs.Listed.{when, every-at, both-left, both-right, and-both}
-use Rattle.cube.proofs.Everywhere.{all-kinds, everywhere}
+use Rattle.cube.specs.Everywhere.{all-kinds}
+use Rattle.cube.proofs.Everywhere.{everywhere}
 
 -- Marks are closed at b: where b is marked, so is each solid voxel d that is connected to it.
 abbrev passes-on : Connectedness → Kinds → List Bool → ℕ → ℕ → Bool
@@ -59,6 +60,9 @@ solid-voxel k (suc (suc (suc (suc (suc zero))))) t = inr (inr (inr (inr (inr (in
 solid-voxel k (suc (suc (suc (suc (suc (suc zero)))))) t = inr (inr (inr (inr (inr (inr (inl refl))))))
 solid-voxel k (suc (suc (suc (suc (suc (suc (suc zero))))))) t = inr (inr (inr (inr (inr (inr (inr (inl refl)))))))
 solid-voxel k (suc (suc (suc (suc (suc (suc (suc (suc i)))))))) t = absurd t
+
+pub voxel-below : (k : Kinds) (i : ℕ) → T (solid k i) → i < 8
+voxel-below k i t = ltb→lt i 8 (every-at (λ j. ltb j 8) voxels tt i (solid-voxel k i t))
 
 is-connected : (c : Connectedness) (i j : ℕ) → Connected c i j → T (connected c i j)
 is-connected c i j h =

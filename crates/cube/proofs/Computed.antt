@@ -2,7 +2,7 @@
 use lib.Dec.{T}
 use Rattle.cube.specs.declared.pair.Pair.{Pair}
 use Rattle.cube.specs.declared.pair.Pair.the-variants.{S18H6, S26H6, S6H18, S6H26}
-use Rattle.cube.proofs.Everywhere.{all-kinds}
+use Rattle.cube.specs.Everywhere.{all-kinds}
 use Rattle.cube.proofs.Sound.{sound}
 
 s18h6 : T (all-kinds (sound S18H6))

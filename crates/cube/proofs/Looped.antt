@@ -12,7 +12,8 @@ use Rattle.cube.specs.Rows.{both}
 use Rattle.cube.specs.declared.pair.Connectedness.{Connectedness}
 use Rattle.cube.specs.declared.pair.Connectedness.the-variants.{Six, Eighteen, TwentySix}
 use Rattle.cube.proofs.Listed.{every-at, distinct, distinct-is, both-left, both-right}
-use Rattle.cube.proofs.Everywhere.{all-kinds, everywhere}
+use Rattle.cube.specs.Everywhere.{all-kinds}
+use Rattle.cube.proofs.Everywhere.{everywhere}
 use Rattle.cube.proofs.Sound.{cornered, all-cross, all-met}
 
 abbrev sized : List ℕ → Bool

@@ -8,7 +8,7 @@ use lib.Dec.{T, eqb, eqb→eq, leb, leb→le}
 use lib.ListN.{getD}
 use Rattle.cube.specs.Cube.{Kinds, solid, voxels}
 use Rattle.cube.specs.Pairs.{Connected, apart, reach}
-use Rattle.cube.specs.Joined.{Joined, one, step, connected, touches, taken, spread, spread-times, seed, reached}
+use Rattle.cube.specs.Joined.{Joined, one, step, connected, touching, touches, taken, spread, spread-times, begun, seed, reached}
 use Rattle.cube.specs.declared.pair.Connectedness.{Connectedness}
 use Rattle.cube.proofs.Listed.{and-left, and-right, or-cases, some-at}
 
@@ -37,14 +37,14 @@ module _ (c : Connectedness) (k : Kinds) (a : ℕ) where
 
   sure-seed : Sure (seed k a)
   sure-seed i t =
-      let u = at-voxel (λ i. elim (eqb i a) [ true ↦ solid k i | false ↦ false ]) i t in
+      let u = at-voxel (begun k a) i t in
       let e : i ≡ a = eqb→eq i a (and-left (eqb i a) (solid k i) u) in
       let s : T (solid k i) = and-right (eqb i a) (solid k i) u in
       subst (Joined c k a) (sym e) (one (subst (λ j. T (solid k j)) e s))
 
   touched : (marked : List Bool) → Sure marked → (i : ℕ) → T (solid k i) → T (touches c marked i) → Joined c k a i
   touched marked sure i s t =
-      let r = some-at (λ j. elim (getD marked j false) [ true ↦ connected c j i | false ↦ false ]) voxels t in
+      let r = some-at (touching c marked i) voxels t in
       let m = and-left (getD marked (r .0) false) (connected c (r .0) i) (r .2) in
       let n = and-right (getD marked (r .0) false) (connected c (r .0) i) (r .2) in
       step (sure (r .0) m) (connected-is c (r .0) i n) s

@@ -18,10 +18,14 @@ pub data Joined (c : Connectedness) (k : Kinds) (a : ℕ) : ℕ → Type 0 where
 abbrev pub connected : Connectedness → ℕ → ℕ → Bool
 connected c i j = elim (leb 1 (apart i j)) [ true ↦ leb (apart i j) (reach c) | false ↦ false ]
 
--- Voxel i is marked, or it is solid and connected to one that is.
-abbrev pub touches : Connectedness → List Bool → ℕ → Bool
-touches c marked i = some (λ j. elim (getD marked j false) [ true ↦ connected c j i | false ↦ false ]) voxels
+-- Voxel j is marked and connected to voxel i; some voxel is.
+abbrev pub touching : Connectedness → List Bool → ℕ → ℕ → Bool
+touching c marked i j = elim (getD marked j false) [ true ↦ connected c j i | false ↦ false ]
 
+abbrev pub touches : Connectedness → List Bool → ℕ → Bool
+touches c marked i = some (touching c marked i) voxels
+
+-- Voxel i is marked, or it is solid and connected to one that is.
 abbrev pub taken : Connectedness → Kinds → List Bool → ℕ → Bool
 taken c k marked i =
     elim (getD marked i false) [ true ↦ true | false ↦ elim (solid k i) [ true ↦ touches c marked i | false ↦ false ] ]
@@ -35,8 +39,11 @@ spread-times zero c k marked = marked
 spread-times (suc n) c k marked = spread-times n c k (spread c k marked)
 
 -- The mark on voxel a alone, where it is solid.
+abbrev pub begun : Kinds → ℕ → ℕ → Bool
+begun k a i = elim (eqb i a) [ true ↦ solid k i | false ↦ false ]
+
 abbrev pub seed : Kinds → ℕ → List Bool
-seed k a = map (λ i. elim (eqb i a) [ true ↦ solid k i | false ↦ false ]) voxels
+seed k a = map (begun k a) voxels
 
 -- Whatever is reached in a cube is reached in seven steps.
 abbrev pub reached : Connectedness → Kinds → ℕ → List Bool

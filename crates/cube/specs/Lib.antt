@@ -11,3 +11,4 @@ pub mod Joined
 pub mod Laws
 pub mod Tubes
 pub mod Samples
+pub mod Everywhere

@@ -28,14 +28,13 @@ loop-from es p = trail 12 es p p
 abbrev pub corners : Kinds → List ℕ
 corners k = keep (crossing k) link-numbers
 
--- No corner of a list is below its first.
-abbrev pub from-lowest : List ℕ → Bool
-from-lowest [] = true
-from-lowest (p ∷ ps) = every (leb p) ps
+-- A corner is the lowest of its loop.
+abbrev pub lowest : List (ℕ × ℕ) → ℕ → Bool
+lowest es p = every (leb p) (loop-from es p)
 
 -- The loops of a graph, each from its lowest link, in the order of these.
 abbrev pub loops-of : Kinds → List (ℕ × ℕ) → List (List ℕ)
-loops-of k es = keep from-lowest (map (loop-from es) (corners k))
+loops-of k es = map (loop-from es) (keep (lowest es) (corners k))
 
 abbrev pub loops : Connectedness → Kinds → List (List ℕ)
 loops s k = loops-of k (graph s k)

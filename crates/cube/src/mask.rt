@@ -1,6 +1,13 @@
 // The mask of a cube: which of its eight voxels are solid.
 ghost use mathlib.Core.Path.{_≡_};
-ghost use Rattle.cube.specs.Cube.{kinds, kinds-in, exchange, solid};
+ghost use mathlib.Core.Bool.{false};
+ghost use Prim.Native.Nat.{_<_, _≤_};
+ghost use Rattle.cube.specs.Cube.{kinds, kinds-in, exchange, solid, crossing};
+
+// The lower and the upper voxel of each cube link.
+const LOWER: [u8; 12] = [0, 2, 4, 6, 0, 1, 4, 5, 0, 1, 2, 3];
+
+const UPPER: [u8; 12] = [1, 3, 5, 7, 2, 3, 6, 7, 4, 5, 6, 7];
 
 // Bit i is set where voxel i is solid; voxel dx + 2 dy + 4 dz lies dx, dy, dz from the cube's low voxel.
 #[derive(Clone, Copy, PartialEq, Eq, Debug)]
@@ -29,5 +36,15 @@ impl Mask {
         ensures { λ r. ⌜ kinds (r .0) ≡ exchange (kinds (self .0)) ⌝ }
     {
         Mask(255 - self.0)
+    }
+
+    // Whether a cube link joins a solid and a hollow voxel; false past the twelfth.
+    pub fn carries_corner(self, link: u8) -> bool
+        ensures { λ r. ⌜ (link < 12 → r ≡ crossing (kinds (self .0)) link) × (12 ≤ link → r ≡ false) ⌝ }
+    {
+        if link >= 12 {
+            return false;
+        }
+        self.is_solid(LOWER[link as usize]) != self.is_solid(UPPER[link as usize])
     }
 }

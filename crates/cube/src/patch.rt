@@ -5,7 +5,7 @@ use crate::triangle::CubeTriangle;
 // At most six triangles, in the order in which they are laid; what stands behind the last of them says nothing.
 #[derive(Clone, Copy)]
 pub struct Patch {
-    pub count: u8,
-    pub places: [CubeTriangle; 6],
+    pub(crate) count: u8,
+    pub(crate) places: [CubeTriangle; 6],
     ghost few: { count ≤ 6 },
 }

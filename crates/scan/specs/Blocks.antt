@@ -19,10 +19,13 @@ abbrev pub orLacking : Bool → ℕ → Voxel → Answer
 orLacking true value v = Ok value
 orLacking false value v = Err (ownFault NoReading v)
 
--- The meaning of a block: a voxel's number is its place in the list, and a value of 65,535 is no reading.
+-- A voxel answers with the value at its number, unless that is 65,535, which is no reading.
+abbrev pub listed : Sides → List ℕ → Voxel → Answer
+listed s values v = orLacking (ltb (getD values (numberOf s v) 0) 65535) (getD values (numberOf s v) 0) v
+
+-- The meaning of a block.
 abbrev pub blockMeans : Sides → List ℕ → Meaning
-blockMeans s values =
-    scanOf s (λ v. orLacking (ltb (getD values (numberOf s v) 0) 65535) (getD values (numberOf s v) 0) v)
+blockMeans s values = scanOf s (listed s values)
 
 -- A scan shows a list of values: each value stands for one voxel, in voxel order, and no other place is read.
 pub record ShowsValues (m : Meaning) (sides : Lengths) (values : List ℕ) : Type 0 where

@@ -2,6 +2,8 @@
 use mathlib.Core.Path.{_≡_}
 use Prim.Native.Nat.{ℕ, _≤_}
 use Rattle.grid.specs.Numbers.{Side}
+use Rattle.grid.specs.declared.axis.Axis.{Axis}
+use Rattle.grid.specs.declared.axis.Axis.the-variants.{X, Y, Z}
 use Rattle.grid.specs.declared.sides.Sides.{Sides}
 use Rattle.scan.specs.declared.lengths.Lengths.{Lengths}
 use Rattle.scan.specs.declared.refusal.Refusal.{Refusal}
@@ -16,6 +18,12 @@ number Shapes = 3
 -- Neighbouring voxels lie 1 to 10,000 whole micrometres apart.
 abbrev pub Step : ℕ → Type 0
 Step n = (1 ≤ n) × (n ≤ 10000)
+
+-- Of three lengths, the one along an axis.
+abbrev pub perAxis : Axis → (x y z : ℕ) → ℕ
+perAxis X x y z = x
+perAxis Y x y z = y
+perAxis Z x y z = z
 
 -- Lengths that can be the sides of a scan.
 abbrev pub SidesFit : Lengths → Type 0

@@ -1,9 +1,10 @@
 // How far apart the voxels of a scan lie.
 ghost use mathlib.Core.Path.{_≡_};
-ghost use Rattle.scan.specs.Making.{SpacingFits, Step};
+ghost use Rattle.scan.specs.Making.{SpacingFits, Step, perAxis};
 ghost use Rattle.std.specs.Options.{Cases};
 ghost use Rattle.std.specs.Orderings.{When};
 use crate::lengths::Lengths;
+use grid::Axis;
 
 // The way from one voxel to the next along each axis, 1 to 10,000 whole micrometres.
 #[derive(Clone, Copy, PartialEq, Eq, Debug)]
@@ -27,25 +28,15 @@ impl Spacing {
         }
     }
 
-    // Micrometres from voxel to voxel along x.
-    pub fn x(self) -> u32
-        ensures { λ r. ⌜ (r ≡ self .x) × Step r ⌝ }
+    // Micrometres from voxel to voxel along the axis.
+    pub fn along(self, axis: Axis) -> u32
+        ensures { λ r. ⌜ (r ≡ perAxis axis (self .x) (self .y) (self .z)) × Step r ⌝ }
     {
-        self.x
-    }
-
-    // Micrometres from voxel to voxel along y.
-    pub fn y(self) -> u32
-        ensures { λ r. ⌜ (r ≡ self .y) × Step r ⌝ }
-    {
-        self.y
-    }
-
-    // Micrometres from voxel to voxel along z.
-    pub fn z(self) -> u32
-        ensures { λ r. ⌜ (r ≡ self .z) × Step r ⌝ }
-    {
-        self.z
+        match axis {
+            Axis::X => self.x,
+            Axis::Y => self.y,
+            Axis::Z => self.z,
+        }
     }
 }
 

@@ -1,6 +1,6 @@
 // Small scans of each kind, asked inside, on the rim and outside.
 use crate::*;
-use grid::Sides;
+use grid::Axis;
 use grid::Voxel;
 use grid::VoxelDebug;
 use grid::VoxelPartialEq;
@@ -62,7 +62,7 @@ fn a_block_reads_in_voxel_order(rt: LibcRuntime) -> Result<(), Fail> {
     for (at, answer) in table {
         check_eq(block.read(at), answer)?;
     }
-    check_eq(block.spacing().y(), 10_000)
+    check_eq(block.spacing().along(Axis::Y), 10_000)
 }
 
 // The number of a refusal, and 0 for what was made.
@@ -163,7 +163,7 @@ fn a_cut_out_shows_a_box(rt: LibcRuntime) -> Result<(), Fail> {
         part.read(place(0, 0, 1)),
         fault(Cause::Outside, place(0, 0, 1), 0),
     )?;
-    check_eq(part.spacing().x(), 3)?;
+    check_eq(part.spacing().along(Axis::X), 3)?;
     let within = Cutout::new(part, place(1, 1, 7), lengths(1, 1, 1));
     check_eq(
         within.read(place(0, 0, 0)),

@@ -1,0 +1,4 @@
+pub mod Trails
+pub mod Found
+pub mod Led
+pub mod Marks
