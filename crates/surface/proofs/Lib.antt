@@ -14,3 +14,4 @@ pub mod Turned
 pub mod Once
 pub mod Rims
 pub mod Front
+pub mod Together

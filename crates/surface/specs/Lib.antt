@@ -4,3 +4,4 @@ pub mod Joined
 pub mod Placing
 pub mod Laws
 pub mod Fronts
+pub mod Whole
