@@ -1,6 +1,6 @@
 -- The corners of the laid triangles are the links between a solid and a hollow voxel. Assumes nothing.
-use mathlib.Core.Path.{_≡_, refl, sym, ap, subst, _∙_}
-use mathlib.Core.List.{List, map}
+use mathlib.Core.Path.{_≡_, sym, subst}
+use mathlib.Core.List.{map}
 use Prim.Native.Nat.{ℕ, _≤_, _<_}
 use native.Mathlib.Omega.{arith}
 use lib.Dec.{T}
@@ -19,7 +19,7 @@ use Rattle.surface.specs.Joined.{crosses}
 use Rattle.surface.specs.Laws.{Drawn, All-cornered}
 use Rattle.surface.proofs.Membership.{in-map, map-in, kept, keeps}
 use Rattle.surface.proofs.Numbered.{low-is, links-at}
-use Rattle.surface.proofs.Placed.{crossing-at}
+use Rattle.surface.proofs.KindsAt.{crossing-at}
 use Rattle.surface.proofs.Sources.{part-from, part-laid, corner-in, in-corner}
 
 module _ (s : Sides) (p : Pair) (solid : Solids) (n : ℕ) (h : n ≤ cubeCount s) where

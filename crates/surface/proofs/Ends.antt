@@ -1,16 +1,14 @@
 -- The ends of the links of an edge are joined in the cube that laid it. Assumes nothing.
 use mathlib.Core.Path.{_≡_, refl, sym, ap, ap₂, subst, _∙_}
 use mathlib.Core.Bool.{Bool, true, false}
-use mathlib.Core.List.{List}
 use Prim.Native.Nat.{ℕ, zero, suc, _+_, _≤_, _<_}
 use native.Mathlib.Omega.{arith}
 use lib.Dec.{T, eqb, eqb→eq, eqb-refl, eqb·zero-suc, eqb·suc-zero}
-use Rattle.grid.specs.Links.{linkNumberOf}
 use Rattle.grid.specs.Cubes.{Low, cubeCount}
 use Rattle.grid.specs.declared.sides.Sides.{Sides}
 use Rattle.grid.specs.declared.voxel.Voxel.{Voxel}
 use Rattle.cube.specs.Lists.{In}
-use Rattle.cube.specs.Cube.{Kinds, dx, dy, dz, exchange, solid}
+use Rattle.cube.specs.Cube.{dx, dy, dz, solid}
 use Rattle.cube.specs.Pairs.{of-solid, of-hollow, differ, reach, apart as cube-apart, Connected as Cube-connected}
 use Rattle.cube.specs.Joined.{Joined as Cube-joined, one as cube-one, step as cube-step}
 use Rattle.cube.specs.Laws.{edges as cube-edges, solid-end as cube-solid-end, hollow-end as cube-hollow-end}
@@ -20,10 +18,10 @@ use Rattle.cube.proofs.Closed.{solid-voxel}
 use Rattle.cube.proofs.Lawful.{lawful}
 use Rattle.surface.specs.Places.{Solids, onward, voxel-at, kinds-at, link-at, low-of}
 use Rattle.surface.specs.Laid.{edges-of}
-use Rattle.surface.specs.Joined.{hollow-of, apart, Close, Connected, Within, Joined, one, step, solid-end, hollow-end}
+use Rattle.surface.specs.Joined.{hollow-of, apart, Close, Connected, Joined, one, step, solid-end, hollow-end}
 use Rattle.surface.specs.Laws.{Ends-joined, All-joined}
-use Rattle.surface.proofs.Numbered.{onward-least, onward-most, low-is, links-at}
-use Rattle.surface.proofs.Placed.{kind-at, solid-end-at, hollow-end-at}
+use Rattle.surface.proofs.Numbered.{onward-least, onward-most, within-at, low-is, links-at}
+use Rattle.surface.proofs.KindsAt.{kind-at, solid-end-at, hollow-end-at}
 use Rattle.surface.proofs.Faces.{edge-links}
 use Rattle.surface.proofs.Sources.{inner, edge-at, part-from, edge-in}
 
@@ -78,21 +76,14 @@ module _ (u : Voxel) where
         few = subst (λ n. n ≤ reach c) (sym (apart-at i j)) (h .1);
       }
 
-  within-at : (i : ℕ) → Within u (voxel-at u i)
-  within-at i = (
-    (onward-least (dx i) (u .x), onward-most (dx i) (u .x)),
-    (onward-least (dy i) (u .y), onward-most (dy i) (u .y)),
-    (onward-least (dz i) (u .z), onward-most (dz i) (u .z)),
-  )
-
   -- Voxels joined in a cube are joined where they lie in the scan.
   module _ (c : Connectedness) (solids : Solids) (a : ℕ) where
     solid-at : (i : ℕ) → T (solid (kinds-at solids u) i) → T (solids (voxel-at u i))
     solid-at i t = subst T (kind-at solids u i (solid-voxel (kinds-at solids u) i t)) t
 
     joined-at : {b : ℕ} → Cube-joined c (kinds-at solids u) a b → Joined c solids u (voxel-at u a) (voxel-at u b)
-    joined-at (cube-one t) = one (within-at a) (solid-at a t)
-    joined-at (cube-step {b} {d} j h t) = step (joined-at j) (connected-at c b d h) (within-at d) (solid-at d t)
+    joined-at (cube-one t) = one (within-at u a) (solid-at a t)
+    joined-at (cube-step {b} {d} j h t) = step (joined-at j) (connected-at c b d h) (within-at u d) (solid-at d t)
 
 module _ (s : Sides) (p : Pair) (solids : Solids) (u : Voxel) (h : Low s u) where
   ends-of : (d : ℕ × ℕ) → In d (cube-edges (inner s p solids u)) → Ends-joined s p solids u (edge-at s u d)

@@ -1,18 +1,17 @@
 -- What the graph on a face of a cube forbids, and the links of an edge. Assumes nothing.
-use mathlib.Core.Path.{_≡_, refl, sym, ap, subst, _∙_}
+use mathlib.Core.Path.{_≡_, refl, sym, ap, subst}
 use mathlib.Core.Logic.{inl, inr}
 use mathlib.Core.Bool.{Bool, true, false, not}
 use mathlib.Core.List.{List, [], _∷_}
 use Prim.Native.Nat.{ℕ}
-use lib.Dec.{T, T-not, eqb}
+use lib.Dec.{T, T-not}
 use Rattle.cube.specs.Lists.{gather, every, some, same, In}
 use Rattle.cube.specs.Cube.{Face, faces, Kinds, solid, link-numbers, crossing}
 use Rattle.cube.specs.Pairs.{of-solid}
 use Rattle.cube.specs.Graph.{round, graph-on}
-use Rattle.cube.specs.Loops.{corners}
 use Rattle.cube.specs.Cutting.{on-face}
 use Rattle.cube.specs.Triangles.{triangles}
-use Rattle.cube.specs.Laws.{edges, edges-of, corners-of, Lies}
+use Rattle.cube.specs.Laws.{edges, edges-of, corners-of}
 use Rattle.cube.specs.declared.pair.Connectedness.{Connectedness}
 use Rattle.cube.specs.declared.pair.Connectedness.the-variants.{Six, Eighteen, TwentySix}
 use Rattle.cube.specs.declared.pair.Pair.{Pair}

@@ -1,8 +1,7 @@
 -- The reverse of a laid edge is missing just on the faces between drawn and undrawn cubes. Assumes nothing.
-use mathlib.Core.Path.{_≡_, refl, sym, ap, subst, _∙_}
+use mathlib.Core.Path.{_≡_, sym, ap, subst, _∙_}
 use mathlib.Core.Logic.{_⊎_, inl, inr, ⊎-elim}
-use mathlib.Core.Bool.{Bool, not}
-use mathlib.Core.List.{List, []}
+use mathlib.Core.List.{List}
 use Prim.Native.Nat.{ℕ, _≤_, _<_}
 use native.Mathlib.Decide.{decLt}
 use native.Mathlib.Omega.{arith}
@@ -11,7 +10,7 @@ use Rattle.grid.specs.Cubes.{Low, cubeCount, cubeNumber}
 use Rattle.grid.specs.declared.axis.Axis.the-variants.{X, Y, Z}
 use Rattle.grid.specs.declared.sides.Sides.{Sides}
 use Rattle.grid.specs.declared.voxel.Voxel.{Voxel}
-use Rattle.cube.specs.Lists.{some, same, In}
+use Rattle.cube.specs.Lists.{same, In}
 use Rattle.cube.specs.Cube.{Face, faces, link-numbers}
 use Rattle.cube.specs.Pairs.{of-solid}
 use Rattle.cube.specs.Graph.{graph-on}
@@ -20,16 +19,16 @@ use Rattle.cube.specs.Laws.{edges as cube-edges}
 use Rattle.cube.specs.declared.pair.Pair.{Pair}
 use Rattle.cube.proofs.Listed.{some-at, found, finds, same-is, same-itself}
 use Rattle.cube.proofs.Lawful.{lawful}
-use Rattle.surface.specs.Places.{Solids, kinds-at, number-at, links-of, low-of}
-use Rattle.surface.specs.Laid.{laid-at, laid, edges-of, edges, back}
-use Rattle.surface.specs.Fronts.{One-border, Beside, On, Between, On-front, among, Fronted, Open-at-front, Closed}
+use Rattle.surface.specs.Places.{Solids, kinds-at, number-at, low-of}
+use Rattle.surface.specs.Laid.{laid, edges-of, edges, back}
+use Rattle.surface.specs.Fronts.{One-border, Beside, On, On-front, among, Fronted, Open-at-front, Closed}
 use Rattle.surface.proofs.Membership.{decide, some-in, in-map, map-in}
 use Rattle.surface.proofs.Numbered.{after-next, low-is, low-same, low-below, low-back}
 use Rattle.surface.proofs.Offsets.{Related}
-use Rattle.surface.proofs.Faces.{one-way, edge-links, edge-differs}
-use Rattle.surface.proofs.Ways.{Way, down, up, west, east, south, north, over, offset-of, face-of, face-in, way-through, placed-once, meeting, same-way}
+use Rattle.surface.proofs.Faces.{one-way, edge-differs}
+use Rattle.surface.proofs.Ways.{Way, down, up, west, east, south, north, offset-of, face-of, face-in, way-through, placed-once, same-way}
 use Rattle.surface.proofs.Turned.{Next, next-to}
-use Rattle.surface.proofs.Rims.{Rim, across, bare}
+use Rattle.surface.proofs.Rims.{across, bare}
 use Rattle.surface.proofs.Rule.{numbers-differ}
 use Rattle.surface.proofs.Sources.{inner, edge-at, part-from, part-laid, edge-in, in-edge}
 use Rattle.surface.proofs.Once.{edge-once, links-in, laid-across, neighbours}
@@ -117,8 +116,6 @@ module _ (s : Sides) (p : Pair) (solids : Solids) (n : ℕ) (h : n ≤ cubeCount
   laid-or-front : One-border s solids → (e : ℕ × ℕ) → In e all → In (back e) all ⊎ On-front s n e
   laid-or-front one e i =
       let l = source e i in
-      let u = low-of s (l .cube) in
-      let k = kinds-at solids u in
       let d = l .edge in
       ⊎-elim (λ t. let f = some-at (on-face (d .0) (d .1)) faces t in faced l (f .0) (f .1) (f .2))
       (λ off. inl (chord l (λ f j lies. off (some-in (on-face (d .0) (d .1)) f faces j lies)))) (decide (together (d .0) (d .1)))

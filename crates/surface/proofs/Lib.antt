@@ -5,7 +5,8 @@ pub mod Offsets
 pub mod Faces
 pub mod Sources
 pub mod Rule
-pub mod Placed
+pub mod KindsAt
+pub mod Placement
 pub mod Corners
 pub mod Ends
 pub mod Ways
@@ -13,3 +14,4 @@ pub mod Turned
 pub mod Once
 pub mod Rims
 pub mod Front
+pub mod Together

@@ -1,6 +1,6 @@
 -- Solid and hollow exchanged, with the pair swapped, turn every triangle over. Assumes nothing.
 use mathlib.Core.Path.{_≡_, refl, sym, ap, ap₂, _∙_}
-use mathlib.Core.List.{List, [], _∷_, _++_, map, map-map, map-append}
+use mathlib.Core.List.{List, [], _∷_, _++_, map, map-append}
 use Prim.Native.Nat.{ℕ, zero, suc}
 use Rattle.grid.specs.declared.sides.Sides.{Sides}
 use Rattle.grid.specs.declared.voxel.Voxel.{Voxel}
@@ -10,7 +10,7 @@ use Rattle.cube.specs.declared.pair.Pair.{Pair}
 use Rattle.cube.specs.declared.triangle.CubeTriangle.{CubeTriangle}
 use Rattle.cube.proofs.Lawful as cube
 use Rattle.surface.specs.Places.{Solids, kinds-at, low-of}
-use Rattle.surface.specs.Laid.{Triangle, numbered, laid-at, laid, turn-over}
+use Rattle.surface.specs.Laid.{numbered, laid-at, laid, turn-over}
 use Rattle.surface.specs.Joined.{hollow-of}
 use Rattle.surface.specs.Laws.{Mirrored}
 

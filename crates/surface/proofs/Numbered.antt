@@ -1,11 +1,10 @@
 -- The cubes of a scan by their numbers, and their links by theirs. Assumes nothing.
 use mathlib.Core.Path.{_≡_, refl, sym, ap, subst, _∙_}
-use mathlib.Core.List.{List, [], _∷_}
 use Prim.Native.Nat.{ℕ, zero, suc, _+_, _-_, _≤_, _<_}
 use native.Mathlib.Numerals.{add-one}
 use native.Mathlib.Omega.{arith}
 use Rattle.grid.specs.Voxels.{Holds}
-use Rattle.grid.specs.Links.{Links, next, upperOf, linkNumberOf}
+use Rattle.grid.specs.Links.{Links, next, upperOf}
 use Rattle.grid.specs.Cubes.{Low, cubeCount, cubeNumber}
 use Rattle.grid.specs.declared.axis.Axis.{Axis}
 use Rattle.grid.specs.declared.axis.Axis.the-variants.{X, Y, Z}
@@ -16,7 +15,8 @@ use Rattle.grid.proofs.Numbered.{inside-low, cube-numbered, link-unique, link-n
 use Rattle.cube.specs.Lists.{In}
 use Rattle.cube.specs.Cube.{dx, dy, dz, lower, upper, link-numbers}
 use Rattle.surface.specs.Places.{onward, voxel-at, link-at, number-at, low-of}
-use Rattle.surface.proofs.Membership.{All, all-at}
+use Rattle.surface.specs.Joined.{Within}
+use Rattle.surface.proofs.Membership.{all-at}
 
 -- A coordinate of a voxel of a cube is that of the low voxel or the next.
 pub onward-least : (d x : ℕ) → x ≤ onward d x
@@ -26,6 +26,14 @@ onward-least (suc d) x = omega arith
 pub onward-most : (d x : ℕ) → onward d x ≤ suc x
 onward-most zero x = omega arith
 onward-most (suc d) x = omega arith
+
+-- The voxels of a cube lie within it.
+pub within-at : (u : Voxel) (i : ℕ) → Within u (voxel-at u i)
+within-at u i = (
+  (onward-least (dx i) (u .x), onward-most (dx i) (u .x)),
+  (onward-least (dy i) (u .y), onward-most (dy i) (u .y)),
+  (onward-least (dz i) (u .z), onward-most (dz i) (u .z)),
+)
 
 -- The voxel one further along an axis, with the next coordinate written as a successor.
 abbrev pub after : Axis → Voxel → Voxel

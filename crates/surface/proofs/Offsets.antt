@@ -1,13 +1,10 @@
 -- Which links two cubes have in common, by how one cube lies to the other. Assumes nothing.
-use mathlib.Core.Path.{_≡_, refl, sym, ap, subst, _∙_}
+use mathlib.Core.Path.{_≡_, refl, sym, ap, subst}
 use mathlib.Core.Bool.{Bool, true, false}
-use mathlib.Core.List.{List, [], _∷_}
 use Prim.Native.Nat.{ℕ, zero, suc}
 use native.Mathlib.Omega.{arith}
 use lib.Dec.{T, eqb, eqb→eq, eqb-refl}
 use Rattle.grid.specs.Links.{axisNumber}
-use Rattle.grid.specs.declared.axis.Axis.{Axis}
-use Rattle.grid.specs.declared.link.Link.{Link}
 use Rattle.grid.specs.declared.voxel.Voxel.{Voxel}
 use Rattle.grid.proofs.Same.{voxel-same, axis-same}
 use Rattle.cube.specs.Lists.{every, In}

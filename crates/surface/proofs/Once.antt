@@ -1,7 +1,6 @@
 -- No directed edge is laid twice. Assumes nothing.
-use mathlib.Core.Path.{_≡_, refl, sym, ap, subst, _∙_}
-use mathlib.Core.Logic.{_⊎_, inl, inr, ⊎-elim}
-use mathlib.Core.List.{List, [], _∷_, _++_, map}
+use mathlib.Core.Path.{_≡_, sym, ap, subst, _∙_}
+use mathlib.Core.Logic.{⊎-elim}
 use Prim.Native.Nat.{ℕ, zero, suc, _≤_, _<_}
 use native.Mathlib.Omega.{arith}
 use lib.Dec.{T}
@@ -10,14 +9,14 @@ use Rattle.grid.specs.Cubes.{Low, cubeCount}
 use Rattle.grid.specs.declared.sides.Sides.{Sides}
 use Rattle.grid.specs.declared.voxel.Voxel.{Voxel}
 use Rattle.cube.specs.Lists.{In, Distinct}
-use Rattle.cube.specs.Cube.{link-numbers}
+use Rattle.cube.specs.Cube.{Face, faces, link-numbers}
 use Rattle.cube.specs.Pairs.{of-solid}
 use Rattle.cube.specs.Graph.{graph-on}
 use Rattle.cube.specs.Cutting.{on-face}
 use Rattle.cube.specs.Laws.{edges as cube-edges}
 use Rattle.cube.specs.declared.pair.Pair.{Pair}
 use Rattle.cube.proofs.Lawful.{lawful}
-use Rattle.surface.specs.Places.{Solids, kinds-at, link-at, number-at, low-of}
+use Rattle.surface.specs.Places.{Solids, kinds-at, low-of}
 use Rattle.surface.specs.Laid.{laid-at, laid, edges-of, edges, back}
 use Rattle.surface.specs.Laws.{Laid-once}
 use Rattle.surface.proofs.Membership.{distinct-both, distinct-map, gather-both}
@@ -73,12 +72,15 @@ module _ (s : Sides) (p : Pair) (solids : Solids) where
       let n = neighbours u v hu hv two d e (links-in u d i) (links-in v e j) (edge-differs p (kinds-at solids u) d i) q in
       let f = face-of (n .0) in
       let a = laid-across (n .0) u v (n .1) d (lawful p (kinds-at solids u) .on-graph d i f (face-in (n .0)) (n .2)) in
-      let g = a .0 in
-      let le = links-in v e j in
-      let lg = links-in v g (a .2) in
-      let same : e ≡ (g .1, g .0) = edge-once v hv e (g .1, g .0) le (lg .1, lg .0) (sym q ∙ sym (ap back (a .3))) in
-      one-way p (kinds-at solids v) (face-of (over (n .0))) (face-in (over (n .0))) g (a .1)
-      (subst (λ x. In x (cube-edges (inner s p solids v))) same j)
+      refuted (face-of (over (n .0))) (face-in (over (n .0))) (a .0) (a .1) (a .2) (sym q ∙ sym (ap back (a .3)))
+    where
+      refuted : (f : Face) → In f faces → (g : ℕ × ℕ) → In g (graph-on (of-solid p) (kinds-at solids v) f)
+          → In g (cube-edges (inner s p solids v)) → edge-at s v e ≡ edge-at s v (back g) → ⊥
+      refuted f hf g on drawn r =
+          let le = links-in v e j in
+          let lg = links-in v g drawn in
+          let same : e ≡ back g = edge-once v hv e (back g) le (lg .1, lg .0) r in
+          one-way p (kinds-at solids v) f hf g on (subst (λ x. In x (cube-edges (inner s p solids v))) same j)
 
   once-at : (u : Voxel) → Low s u → Distinct (edges (laid-at s p solids u))
   once-at u h =

@@ -1,14 +1,14 @@
 -- The cubes come by their numbers, and their triangles have three different link numbers. Assumes nothing.
-use mathlib.Core.Path.{_≡_, refl, sym, ap, subst, _∙_}
+use mathlib.Core.Path.{_≡_, refl, sym, ap, subst}
 use mathlib.Core.Logic.{inl, inr}
-use mathlib.Core.List.{List}
-use Prim.Native.Nat.{ℕ, _≤_, _<_}
+use mathlib.Core.List.{_++_}
+use Prim.Native.Nat.{ℕ, _+_, _<_}
+use native.Mathlib.Numerals.{add-one}
 use native.Mathlib.Omega.{arith}
 use Rattle.grid.specs.Cubes.{Low, cubeCount}
 use Rattle.grid.specs.declared.sides.Sides.{Sides}
 use Rattle.grid.specs.declared.voxel.Voxel.{Voxel}
 use Rattle.cube.specs.Lists.{In}
-use Rattle.cube.specs.Cube.{link-numbers}
 use Rattle.cube.specs.Laws.{edges as cube-edges}
 use Rattle.cube.specs.declared.pair.Pair.{Pair}
 use Rattle.cube.specs.declared.triangle.CubeTriangle.{CubeTriangle}
@@ -50,12 +50,17 @@ module _ (s : Sides) (p : Pair) (solid : Solids) (u : Voxel) (h : Low s u) where
       let r = map-in (numbered s u) t (inner s p solid u) i in
       subst Sound (sym (r .2)) (sound-numbered (r .0) (r .1))
 
+-- One cube more lays its triangles after the others.
+pub laid-next : (s : Sides) (p : Pair) (solid : Solids) (n : ℕ) → laid s p solid (n + 1) ≡ laid s p solid n ++ laid-at s p solid (low-of s n)
+laid-next s p solid n = ap (laid s p solid) (add-one n)
+
 pub laid-by-rule : Laid-by-rule
 laid-by-rule s p solid n h =
     record {
       low = λ c l. low-is s c (omega arith);
       number = λ c l. low-number s c (omega arith);
-      next = refl;
+      none = refl;
+      next = λ c l. refl;
       sound = λ t i.
           let r = triangle-from s p solid n t i in
           let lt : r .0 < cubeCount s = omega (arith, r .1) in

@@ -1,7 +1,7 @@
 -- From which cube a laid triangle, edge or corner comes. Assumes nothing.
-use mathlib.Core.Path.{_≡_, refl, sym, ap, subst, _∙_}
-use mathlib.Core.Logic.{_⊎_, inl, inr, ⊎-elim}
-use mathlib.Core.List.{List, [], _∷_, _++_, map}
+use mathlib.Core.Path.{_≡_, refl, sym, ap, subst}
+use mathlib.Core.Logic.{⊎-elim}
+use mathlib.Core.List.{List, [], _∷_, map}
 use Prim.Native.Nat.{ℕ, zero, suc, _≤_, _<_}
 use native.Mathlib.Nat.{eq-or-lt-of-le}
 use native.Mathlib.Omega.{arith}
@@ -13,7 +13,7 @@ use Rattle.cube.specs.Laws.{edges as cube-edges, corners-of as cube-corners-of}
 use Rattle.cube.specs.declared.pair.Pair.{Pair}
 use Rattle.cube.specs.declared.triangle.CubeTriangle.{CubeTriangle}
 use Rattle.surface.specs.Places.{Solids, kinds-at, number-at, low-of}
-use Rattle.surface.specs.Laid.{Triangle, numbered, laid-at, laid, edges-of, edges, corners-of, corners}
+use Rattle.surface.specs.Laid.{Triangle, numbered, laid-at, laid, edges, corners}
 use Rattle.surface.proofs.Membership.{in-left, in-right, in-either, in-map, map-in, gather-both}
 
 -- An edge of a cube in the scan's link numbers.
@@ -30,6 +30,10 @@ corners-numbered s u [] = refl
 corners-numbered s u (t ∷ ts) =
     ap (λ ls. number-at s u (t .0) ∷ number-at s u (t .1) ∷ number-at s u (t .2) ∷ ls) (corners-numbered s u ts)
 
+-- A cube among the first n is among the first n + 1.
+later : (c n : ℕ) → c < n → c < suc n
+later c n h = omega arith
+
 module _ (s : Sides) (p : Pair) (solid : Solids) where
   -- The triangles of a cube before their links are numbered.
   abbrev pub inner : Voxel → List CubeTriangle
@@ -42,15 +46,9 @@ module _ (s : Sides) (p : Pair) (solid : Solids) where
   triangle-from (suc n) t i =
       ⊎-elim (λ j. let r = triangle-from n t j in (r .0, later (r .0) n (r .1), r .2)) (λ j. (n, omega arith, j))
       (in-either t (laid s p solid n) (laid-at s p solid (low-of s n)) i)
-    where
-      later : (c n : ℕ) → c < n → c < suc n
-      later c n h = omega arith
 
   -- What the triangles show, as edges or corners, is shown by the triangles of one of the first n cubes.
   module _ {B : Type 0} (show : Triangle → List B) (b : B) where
-    later : (c n : ℕ) → c < n → c < suc n
-    later c n h = omega arith
-
     pub part-from : (n : ℕ) → In b (gather show (laid s p solid n))
         → (c : ℕ) × (c < n) × In b (gather show (laid-at s p solid (low-of s c)))
     part-from zero i = absurd i

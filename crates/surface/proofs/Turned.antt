@@ -1,23 +1,20 @@
 -- Two neighbours see the graph on the face between them in opposite directions. Assumes nothing.
-use mathlib.Core.Path.{_≡_, refl, sym, ap, subst, _∙_}
-use mathlib.Core.Logic.{inl, inr}
+use mathlib.Core.Path.{_≡_, sym, ap, subst}
 use mathlib.Core.Bool.{Bool, true, false}
-use mathlib.Core.List.{List, [], _∷_}
-use Prim.Native.Nat.{ℕ, suc}
+use mathlib.Core.List.{List}
+use Prim.Native.Nat.{ℕ}
 use lib.Dec.{T}
-use Rattle.grid.specs.Links.{next}
-use Rattle.grid.specs.declared.axis.Axis.{Axis}
 use Rattle.grid.specs.declared.axis.Axis.the-variants.{X, Y, Z}
 use Rattle.grid.specs.declared.voxel.Voxel.{Voxel}
 use Rattle.grid.proofs.Same.{voxel-same}
 use Rattle.cube.specs.Lists.{every, some, In}
-use Rattle.cube.specs.Cube.{Face, solid}
+use Rattle.cube.specs.Cube.{solid}
 use Rattle.cube.specs.Graph.{graph-on}
 use Rattle.cube.specs.declared.pair.Connectedness.{Connectedness}
 use Rattle.cube.specs.declared.pair.Connectedness.the-variants.{Six, Eighteen, TwentySix}
 use Rattle.cube.proofs.Listed.{and-left, and-right, every-at, some-at}
 use Rattle.surface.specs.Places.{Solids, kinds-at, link-at}
-use Rattle.surface.proofs.Numbered.{after, after-next}
+use Rattle.surface.proofs.Numbered.{after}
 use Rattle.surface.proofs.Offsets.{Related, meets, meets-same}
 use Rattle.surface.proofs.Ways.{Way, down, up, west, east, south, north, ways, in-ways, over, offset-of, face-of}
 use Rattle.surface.proofs.Faces.{sixteen, sixteen-at, walked}

@@ -1,6 +1,6 @@
 -- What holds of the triangles of the first n cubes, for every scan, every pair and every n. Assumes nothing.
 use mathlib.Core.Path.{_≡_}
-use mathlib.Core.List.{List, _++_, map}
+use mathlib.Core.List.{[], _++_, map}
 use Prim.Native.Nat.{ℕ, suc, _≤_, _<_}
 use lib.Dec.{T}
 use Rattle.grid.specs.Links.{Links, linkNumberOf}
@@ -30,7 +30,8 @@ pub record Sound (t : Triangle) : Type 0 where
 pub record Rule-true (s : Sides) (p : Pair) (solid : Solids) (n : ℕ) : Type 0 where
   pub low : (c : ℕ) → c < n → Low s (low-of s c)
   pub number : (c : ℕ) → c < n → cubeNumber s (low-of s c) ≡ c
-  pub next : laid s p solid (suc n) ≡ laid s p solid n ++ laid-at s p solid (low-of s n)
+  pub none : laid s p solid 0 ≡ []
+  pub next : (c : ℕ) → c < n → laid s p solid (suc c) ≡ laid s p solid c ++ laid-at s p solid (low-of s c)
   pub sound : (t : Triangle) → In t (laid s p solid n) → Sound t
 
 abbrev pub Laid-by-rule : Type 0

@@ -1,6 +1,13 @@
 // The laws of the whole surface, one to a function; the answer says nothing.
 ghost use Rattle.surface.specs.Fronts.{Open-at-front, Closed};
 ghost use Rattle.surface.specs.Laws.{Laid-by-rule, Mirrored, All-cornered, All-joined, Laid-once};
+ghost use Rattle.surface.specs.Placing.{All-placed};
+ghost use Rattle.surface.specs.Whole.{All-whole};
+
+// The voxels, kinds and links of a cube are those of the scan where its low voxel places it.
+pub fn all_placed()
+    ensures { λ _. ⌜ All-placed ⌝ }
+{}
 
 // The triangles of a cube are those of the rules at its kinds, in three different link numbers each.
 pub fn laid_by_rule()
@@ -35,4 +42,9 @@ pub fn open_at_front()
 // With a border of one kind and all cubes drawn, no reverse is missing.
 pub fn closed()
     ensures { λ _. ⌜ Closed ⌝ }
+{}
+
+// All laws of the first n cubes together.
+pub fn all_whole()
+    ensures { λ _. ⌜ All-whole ⌝ }
 {}

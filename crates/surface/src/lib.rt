@@ -4,6 +4,8 @@ mod laws;
 
 pub use laws::all_cornered;
 pub use laws::all_joined;
+pub use laws::all_placed;
+pub use laws::all_whole;
 pub use laws::closed;
 pub use laws::laid_by_rule;
 pub use laws::laid_once;
