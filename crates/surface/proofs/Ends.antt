@@ -14,7 +14,7 @@ use Rattle.cube.specs.Joined.{Joined as Cube-joined, one as cube-one, step as c
 use Rattle.cube.specs.Laws.{edges as cube-edges, solid-end as cube-solid-end, hollow-end as cube-hollow-end}
 use Rattle.cube.specs.declared.pair.Connectedness.{Connectedness}
 use Rattle.cube.specs.declared.pair.Pair.{Pair}
-use Rattle.cube.proofs.Closed.{solid-voxel}
+use Rattle.cube.proofs.Voxels.{solid-voxel}
 use Rattle.cube.proofs.Lawful.{lawful}
 use Rattle.surface.specs.Places.{Solids, onward, voxel-at, kinds-at, link-at, low-of}
 use Rattle.surface.specs.Laid.{edges-of}
