@@ -7,7 +7,6 @@ use lib.Dec.{T}
 use mir.Val.{boolByte}
 use Rattle.cube.specs.Lists.{every, In}
 use Rattle.cube.specs.Cube.{Kinds, solid, exchange, bit, kinds, voxels}
-use Rattle.cube.specs.Rows.{passes}
 use Rattle.cube.proofs.Listed.{every-at}
 use Rattle.cube.specs.Everywhere.{all-kinds}
 use Rattle.cube.proofs.Everywhere.{everywhere}

@@ -2,7 +2,7 @@
 use mathlib.Core.Bool.{Bool, true, false}
 use lib.Dec.{T}
 use Rattle.cube.specs.Cube.{Kinds}
-use Rattle.cube.specs.Rows.{both}
+use Rattle.cube.specs.Lists.{both}
 use Rattle.cube.specs.Everywhere.{either, kinds-of, all-kinds}
 use Rattle.cube.proofs.Listed.{both-left, both-right}
 

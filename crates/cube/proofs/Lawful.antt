@@ -4,12 +4,11 @@ use mathlib.Core.Bool.{Bool, true, false, not}
 use mathlib.Core.List.{List, [], _∷_, map}
 use lib.Dec.{T, leb, leb→le}
 use lib.ListN.{length}
-use Rattle.cube.specs.Lists.{gather}
+use Rattle.cube.specs.Lists.{gather, both}
 use Rattle.cube.specs.Cube.{Kinds, exchange}
 use Rattle.cube.specs.Pairs.{swap}
 use Rattle.cube.specs.Triangles.{triangles, cut-all, with-tube, turn-over}
 use Rattle.cube.specs.Laws.{edges, corners-of, most, Lawful}
-use Rattle.cube.specs.Rows.{both}
 use Rattle.cube.specs.declared.pair.Connectedness.the-variants.{Eighteen}
 use Rattle.cube.specs.declared.pair.Pair.{Pair}
 use Rattle.cube.specs.declared.pair.Pair.the-variants.{S18H6, S26H6, S6H18, S6H26}

@@ -5,8 +5,7 @@ use mathlib.Core.Bool.{Bool, true, false, not}
 use mathlib.Core.List.{List, [], _∷_}
 use Prim.Native.Nat.{ℕ}
 use lib.Dec.{T, T-not, eqb, eqb→eq, eqb-refl}
-use Rattle.cube.specs.Lists.{every, some, same, In, Distinct}
-use Rattle.cube.specs.Rows.{both}
+use Rattle.cube.specs.Lists.{every, some, same, In, Distinct, both}
 
 -- The three ways in which one test guards another.
 pub and-left : (a b : Bool) → T (elim a [ true ↦ b | false ↦ false ]) → T a

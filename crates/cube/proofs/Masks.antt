@@ -6,7 +6,8 @@ use Prim.Native.Nat.{ℕ, zero, suc, _+_, _/_, _%_, _<_, _≤_}
 use native.Mathlib.Nat.{add-zero, zero-add, add-suc, suc-add, le-of-suc-le-suc, not-suc-le-zero}
 use lib.Dec.{T, eqb, eqb→eq, leb, leb→le}
 use lib.ListN.{getD, take}
-use Rattle.cube.specs.Rows.{both, same-triangle, same-triangles, passes, row-ruled, Ruled}
+use Rattle.cube.specs.Lists.{both}
+use Rattle.cube.specs.Rows.{same-triangle, same-triangles, passes, row-ruled, Ruled}
 use Rattle.cube.specs.Cube.{kinds}
 use Rattle.cube.specs.Triangles.{cut-all}
 use Rattle.cube.specs.declared.pair.Connectedness.the-variants.{Eighteen}

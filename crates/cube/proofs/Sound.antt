@@ -6,7 +6,7 @@ use mathlib.Core.List.{List, [], _∷_, map}
 use Prim.Native.Nat.{ℕ, _≤_}
 use lib.Dec.{T, eqb, eqb→eq, leb, leb→le}
 use lib.ListN.{length, getD}
-use Rattle.cube.specs.Lists.{gather, every, some, same, In, Distinct}
+use Rattle.cube.specs.Lists.{gather, every, some, same, In, Distinct, both}
 use Rattle.cube.specs.Cube.{Face, faces, Kinds, solid, exchange}
 use Rattle.cube.specs.Pairs.{of-solid, of-hollow}
 use Rattle.cube.specs.Graph.{graph-on}
@@ -15,7 +15,6 @@ use Rattle.cube.specs.Cutting.{on-face, together}
 use Rattle.cube.specs.Triangles.{triangles}
 use Rattle.cube.specs.Joined.{Joined, one, step, connected, reached}
 use Rattle.cube.specs.Laws.{edges, corners-of, solid-end, hollow-end, most, Lies}
-use Rattle.cube.specs.Rows.{both}
 use Rattle.cube.specs.declared.pair.Connectedness.{Connectedness}
 use Rattle.cube.specs.declared.pair.Pair.{Pair}
 use Rattle.cube.specs.declared.triangle.CubeTriangle.{CubeTriangle}

@@ -12,7 +12,8 @@ use Rattle.cube.specs.Cutting.{triangle}
 use Rattle.cube.specs.Triangles.{cut-all, opposite, tube, with-tube}
 use Rattle.cube.specs.Loops.{loops}
 use Rattle.cube.specs.Tubes.{tube-between}
-use Rattle.cube.specs.Rows.{both, same-triangles}
+use Rattle.cube.specs.Lists.{both}
+use Rattle.cube.specs.Rows.{same-triangles}
 use Rattle.cube.specs.declared.pair.Connectedness.the-variants.{Eighteen, TwentySix}
 use Rattle.cube.specs.declared.triangle.CubeTriangle.{CubeTriangle}
 use Rattle.cube.proofs.Listed.{when, both-left, both-right}

@@ -1,7 +1,7 @@
 -- A test of every cube. Assumes nothing.
 use mathlib.Core.Bool.{Bool, true, false}
 use Rattle.cube.specs.Cube.{Kinds}
-use Rattle.cube.specs.Rows.{both}
+use Rattle.cube.specs.Lists.{both}
 
 -- A test passes whichever of two kinds a voxel has, and of all kinds that a cube can have.
 abbrev pub either : (Bool → Bool) → Bool

@@ -16,6 +16,11 @@ abbrev pub keep : {A : Type 0} → (A → Bool) → List A → List A
 keep f [] = []
 keep f (x ∷ xs) = elim (f x) [ true ↦ x ∷ keep f xs | false ↦ keep f xs ]
 
+-- Both of two tests pass.
+abbrev pub both : Bool → Bool → Bool
+both true b = b
+both false b = false
+
 -- Every element passes a test.
 abbrev pub every : {A : Type 0} → (A → Bool) → List A → Bool
 every f [] = true

@@ -4,15 +4,11 @@ use mathlib.Core.List.{List, [], _∷_}
 use Prim.Native.Nat.{ℕ, zero, suc, _/_, _%_}
 use lib.Dec.{T, eqb, leb}
 use lib.ListN.{getD, take}
+use Rattle.cube.specs.Lists.{both}
 use Rattle.cube.specs.Cube.{kinds}
 use Rattle.cube.specs.Triangles.{cut-all}
 use Rattle.cube.specs.declared.pair.Connectedness.the-variants.{Eighteen}
 use Rattle.cube.specs.declared.triangle.CubeTriangle.{CubeTriangle}
-
--- Both of two tests pass.
-abbrev pub both : Bool → Bool → Bool
-both true b = b
-both false b = false
 
 -- Two triangles have the same corners in the same order; two lists have the same triangles in the same order.
 abbrev pub same-triangle : CubeTriangle → CubeTriangle → Bool

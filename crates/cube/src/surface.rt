@@ -31,9 +31,7 @@ pub fn triangles(mask: Mask, pair: Pair) -> Patch
     by_pair(mask, pair)
 }
 
-// The worked cases of the rules, shown from the definitions together; it answers how many masks they speak of.
-pub fn samples() -> u8
-    ensures { λ r. ⌜ Samples ⌝ }
-{
-    6
-}
+// The worked cases of the rules, shown together from the definitions.
+pub fn samples()
+    ensures { λ _. ⌜ Samples ⌝ }
+{}

@@ -5,7 +5,7 @@ use cube::Pair;
 use std::error::AnyError;
 
 // Two galleries in one cube, then all cubes.
-pub fn show(rt: &LibcRuntime) -> Result<(), AnyError> {
+pub(crate) fn show(rt: &LibcRuntime) -> Result<(), AnyError> {
     println!(rt, "Two galleries that pass across a face: mask 9")?;
     show_mask(rt, Mask(9))?;
     println!(rt, "Two galleries that pass across the cube: mask 129")?;

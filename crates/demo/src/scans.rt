@@ -16,7 +16,7 @@ use std::alloc::Global;
 use std::error::AnyError;
 
 // Makes the scans one after the other, and asks each of them.
-pub fn show(rt: &LibcRuntime) -> Result<(), AnyError> {
+pub(crate) fn show(rt: &LibcRuntime) -> Result<(), AnyError> {
     let lengths = all(12);
     println!(
         rt,

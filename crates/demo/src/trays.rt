@@ -12,7 +12,7 @@ use tray::Triangle;
 use tray::pour;
 
 // Fills a small record tray, and pours it into bytes with room for two lines and some bytes more.
-pub fn show(rt: &LibcRuntime) -> Result<(), AnyError> {
+pub(crate) fn show(rt: &LibcRuntime) -> Result<(), AnyError> {
     println!(rt, "A record tray of three places")?;
     let mut records = RecordTray::new(rt.alloc(), 3)?;
     put(rt, &mut records, 36, 14, 31)?;

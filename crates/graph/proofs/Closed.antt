@@ -4,11 +4,10 @@ use mathlib.Core.List.{List}
 use Prim.Native.Nat.{ℕ}
 use lib.Dec.{T, leb, le→leb}
 use lib.ListN.{getD}
-use Rattle.cube.specs.Lists.{every}
+use Rattle.cube.specs.Lists.{every, both}
 use Rattle.cube.specs.Cube.{Kinds, solid, voxels}
 use Rattle.cube.specs.Pairs.{Connected, apart, reach}
 use Rattle.cube.specs.Joined.{Joined, one, step, connected, reached}
-use Rattle.cube.specs.Rows.{both}
 use Rattle.cube.specs.declared.pair.Connectedness.{Connectedness}
 use Rattle.cube.specs.declared.pair.Connectedness.the-variants.{Six, Eighteen, TwentySix}
 use Rattle.cube.proofs.Listed.{when, every-at, both-left, both-right, and-both}

@@ -3,11 +3,10 @@ use mathlib.Core.Path.{_≡_}
 use mathlib.Core.List.{List}
 use Prim.Native.Nat.{ℕ, _<_}
 use lib.Dec.{T, eqb, eqb→eq, ltb, ltb→lt}
-use Rattle.cube.specs.Lists.{every, some, In}
+use Rattle.cube.specs.Lists.{every, some, In, both}
 use Rattle.cube.specs.Cube.{Kinds, link-numbers}
 use Rattle.cube.specs.Graph.{graph}
 use Rattle.cube.specs.Loops.{next}
-use Rattle.cube.specs.Rows.{both}
 use Rattle.graph.specs.Successors.{by-walks, leads, leads-all, Leads}
 use Rattle.cube.specs.declared.pair.Connectedness.{Connectedness}
 use Rattle.cube.specs.declared.pair.Connectedness.the-variants.{Six, Eighteen, TwentySix}

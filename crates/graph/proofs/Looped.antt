@@ -4,11 +4,10 @@ use mathlib.Core.List.{List}
 use Prim.Native.Nat.{ℕ}
 use lib.Dec.{T, eqb, eqb-refl, leb, leb→le}
 use lib.ListN.{length}
-use Rattle.cube.specs.Lists.{gather, every, In}
+use Rattle.cube.specs.Lists.{gather, every, In, both}
 use Rattle.cube.specs.Cube.{Kinds}
 use Rattle.cube.specs.Loops.{loops}
 use Rattle.cube.specs.Laws.{Sized, Looped}
-use Rattle.cube.specs.Rows.{both}
 use Rattle.cube.specs.declared.pair.Connectedness.{Connectedness}
 use Rattle.cube.specs.declared.pair.Connectedness.the-variants.{Six, Eighteen, TwentySix}
 use Rattle.cube.proofs.Listed.{every-at, distinct, distinct-is, both-left, both-right}

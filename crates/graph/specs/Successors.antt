@@ -4,11 +4,10 @@ use mathlib.Core.List.{List, [], _∷_}
 use Prim.Native.Nat.{ℕ}
 use lib.Dec.{T, eqb, ltb}
 use lib.ListN.{getD}
-use Rattle.cube.specs.Lists.{every}
+use Rattle.cube.specs.Lists.{every, both}
 use Rattle.cube.specs.Cube.{Kinds, solid, link-numbers}
 use Rattle.cube.specs.Graph.{graph}
 use Rattle.cube.specs.Loops.{next}
-use Rattle.cube.specs.Rows.{both}
 use Rattle.cube.specs.Everywhere.{all-kinds}
 use Rattle.cube.specs.declared.pair.Connectedness.{Connectedness}
 use Rattle.cube.specs.declared.pair.Connectedness.the-variants.{Six, Eighteen, TwentySix}
