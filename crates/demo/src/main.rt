@@ -1,5 +1,6 @@
 // Shows what the library makes of two galleries that pass each other, step by step.
 mod cubes;
+mod openings;
 mod scans;
 mod trays;
 
@@ -8,6 +9,7 @@ use std::error::AnyError;
 fn run(rt: &LibcRuntime) -> Result<(), AnyError> {
     cubes::show(rt)?;
     scans::show(rt)?;
+    openings::show(rt)?;
     trays::show(rt)
 }
 

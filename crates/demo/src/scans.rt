@@ -43,12 +43,12 @@ pub(crate) fn show(rt: &LibcRuntime) -> Result<(), AnyError> {
 }
 
 // The same length along each axis.
-fn all(n: u32) -> Lengths {
+pub(crate) fn all(n: u32) -> Lengths {
     Lengths { x: n, y: n, z: n }
 }
 
 // Two bores through a box, along x and along y, one voxel apart; the bores come first, so that they count.
-fn housing(heap: Global) -> Result<Vec<Shape>, AllocError> {
+pub(crate) fn housing(heap: Global) -> Result<Vec<Shape>, AllocError> {
     let mut shapes = Vec::new(heap);
     shapes.push(shape((0, 4, 4), (11, 5, 5), 0))?;
     shapes.push(shape((4, 0, 7), (5, 11, 8), 0))?;

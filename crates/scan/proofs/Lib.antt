@@ -1,2 +1,2 @@
 mod Makers
-mod Rims
+pub mod Rims

@@ -1,0 +1,3 @@
+pub mod Solids
+pub mod Borders
+pub mod Opening
