@@ -1,3 +1,4 @@
 pub mod Solids
 pub mod Borders
 pub mod Opening
+pub mod Readings

@@ -3,6 +3,7 @@ mod border;
 mod drawing;
 mod letter;
 mod opening;
+mod reading;
 mod refusal;
 #[cfg(test)]
 mod tests;
@@ -18,6 +19,7 @@ pub use letter::SolidTest;
 pub use letter::SolidTestDebug;
 pub use letter::SolidTestEq;
 pub use letter::SolidTestPartialEq;
+pub use reading::cube_mask;
 pub use refusal::OpenRefusal;
 pub use refusal::OpenRefusalDebug;
 pub use refusal::OpenRefusalEq;

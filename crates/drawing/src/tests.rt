@@ -1,6 +1,8 @@
 // Small blocks opened and refused.
 use crate::drawing::Drawing;
 use crate::letter::Letter;
+use crate::letter::SolidTest;
+use crate::reading::cube_mask;
 use crate::refusal::OpenRefusal;
 use scan::Block;
 use scan::BlockScan;
@@ -47,6 +49,37 @@ fn first_refusal_that_applies(rt: LibcRuntime) -> Result<(), Fail> {
     )?;
     check_eq(refused(heap, (2, 2, 2), &[0; 8], 5)?, 0)?;
     check_eq(refused(heap, (2, 2, 2), &[9; 8], 5)?, 0)
+}
+
+// The mask of cube 0 of a block of 3 x 3 x 3 values under H at 5; 1000 where a voxel lacks a reading, 2000 where there is no such cube.
+fn mask_of(heap: Global, values: &[u16], number: u32) -> Result<u16, Fail> {
+    let sides = Lengths { x: 3, y: 3, z: 3 };
+    let spacing = Lengths { x: 1, y: 1, z: 1 };
+    let test = SolidTest {
+        threshold: 5,
+        letter: Letter::H,
+    };
+    match Block::new(sides, spacing, values.to_vec(heap)?) {
+        Ok(block) => match cube_mask(&block, test, number) {
+            Some(Ok(mask)) => Ok(u16::from(mask.0)),
+            Some(Err(_)) => Ok(1000),
+            None => Ok(2000),
+        },
+        Err(_) => Ok(3000),
+    }
+}
+
+#[test]
+fn masks_of_cubes(rt: LibcRuntime) -> Result<(), Fail> {
+    let heap = rt.alloc();
+    let mut values = [0u16; 27];
+    values[13] = 9;
+    check_eq(mask_of(heap, &values, 0)?, 128)?;
+    check_eq(mask_of(heap, &values, 1)?, 64)?;
+    check_eq(mask_of(heap, &values, 7)?, 1)?;
+    check_eq(mask_of(heap, &values, 8)?, 2000)?;
+    values[13] = 65_535;
+    check_eq(mask_of(heap, &values, 3)?, 1000)
 }
 
 #[test]
