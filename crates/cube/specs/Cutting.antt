@@ -22,7 +22,7 @@ together p q = some (on-face p q) faces
 abbrev pub neighbours : List (ℕ × ℕ) → ℕ → ℕ → Bool
 neighbours es p q = elim (some (same (p, q)) es) [ true ↦ true | false ↦ some (same (q, p)) es ]
 
--- A point in doubled cube coordinates: a voxel has 0 or 2 on each axis, a corner 1 on the axis of its link.
+-- A point, in coordinates twice those of the cube, so that corners, midway on their links, have whole ones too.
 pub record Point : Type 0 where
   pub x : ℤ
   pub y : ℤ

@@ -60,7 +60,7 @@ pub record Lawful (p : Pair) (k : Kinds) (ts : List CubeTriangle) : Type 0 where
   pub solid-ends : (e : ℕ × ℕ) → In e (edges ts) → Joined (of-solid p) k (solid-end k (e .0)) (solid-end k (e .1))
   pub hollow-ends : (e : ℕ × ℕ) → In e (edges ts) → Joined (of-hollow p) (exchange k) (hollow-end k (e .0)) (hollow-end k (e .1))
   pub few : length ts ≤ most p k
-  -- Kinds exchanged and the pair swapped give the same triangles in the same order, turned over.
+  -- The exchanged cube under the swapped pair lays these triangles turned over, one by one.
   pub mirror : triangles (swap p) (exchange k) ≡ map turn-over ts
 
 -- A loop has three to seven corners.

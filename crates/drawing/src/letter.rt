@@ -2,7 +2,7 @@
 ghost use mathlib.Core.Path.{_≡_};
 ghost use Rattle.drawing.specs.Solids.{is-solid, exchanged};
 
-// Under H a voxel is solid when its reading is at least the threshold, under L when it is below.
+// H calls readings solid from the threshold upward, L those below it.
 #[derive(Clone, Copy, PartialEq, Eq, Debug)]
 pub enum Letter {
     H,

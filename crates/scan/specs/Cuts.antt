@@ -12,11 +12,11 @@ use Rattle.scan.specs.Meaning.{Answer, Meaning, scanOf}
 use Rattle.scan.specs.declared.fault.Cause.the-variants.{Outside}
 use Rattle.scan.specs.declared.lengths.Lengths.{Lengths}
 
--- Along one axis: a corner beyond the last voxel is lowered to it.
+-- Along one axis: a corner past the end goes back to the last voxel.
 abbrev pub clipLow : (side low : ℕ) → ℕ
 clipLow side low = min low (side - 1)
 
--- Along one axis: a length is brought to at least 1 and at most what remains from the corner on.
+-- Along one axis: a length is cut to what the corner leaves, but never below one voxel.
 abbrev pub clipLength : (side low length : ℕ) → ℕ
 clipLength side low length = max 1 (min length (side - clipLow side low))
 
@@ -49,7 +49,7 @@ cutSides s low lengths = record {
 abbrev pub shifted : Voxel → Voxel → Voxel
 shifted low v = record { x = low .x + v .x; y = low .y + v .y; z = low .z + v .z }
 
--- An answer from below: a fault comes up whole, with one more scan passed.
+-- An answer from below: a fault is handed on, and one scan more is counted.
 abbrev pub raised : Answer → Answer
 raised (Ok reading) = Ok reading
 raised (Err f) = Err (passedUp f)

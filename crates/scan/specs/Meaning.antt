@@ -27,7 +27,7 @@ pub record Meaning : Type 0 where
 abbrev pub Voxelwise : Answer → Type 0
 Voxelwise a = Cases a (λ reading. reading ≤ 65534) (λ f. f .cause ≡ NoReading)
 
--- What every scan owes: a place faults exactly when its voxel has no reading or it lies outside,
+-- What every scan owes: there is a fault just where nothing was measured and beyond the sides,
 -- and a place outside is the scan's own fault at that place.
 pub record Lawful (m : Meaning) : Type 0 where
   pub inside : (v : Voxel) → Holds (m .sides) v → Voxelwise (m .at v)

@@ -6,7 +6,7 @@ use crate::lengths::Lengths;
 use grid::Sides;
 use grid::Voxel;
 
-// The corner along one axis: one beyond the last voxel is lowered to it.
+// The corner along one axis: one past the end goes back to the last voxel.
 fn clip_low(side: u32, low: u32) -> u32
     requires { ⌜ Side side ⌝ }
     ensures { λ r. ⌜ r ≡ clipLow side low ⌝ }
@@ -14,7 +14,7 @@ fn clip_low(side: u32, low: u32) -> u32
     low.min(side - 1)
 }
 
-// The length along one axis: at least 1 and at most what remains from the corner on.
+// The length along one axis: cut to what the corner leaves, but never below one voxel.
 fn clip_length(side: u32, low: u32, length: u32) -> u32
     requires { ⌜ Side side ⌝ }
     ensures { λ r. ⌜ r ≡ clipLength side low length ⌝ }
@@ -33,7 +33,7 @@ pub(crate) fn corner(sides: Sides, low: Voxel) -> Voxel
     }
 }
 
-// The sides of the part, brought to at least 1 and at most what remains.
+// The sides of the part, each fitted along its axis.
 pub(crate) fn part(sides: Sides, low: Voxel, lengths: Lengths) -> Sides
     ensures { λ r. ⌜ r ≡ cutSides sides low lengths ⌝ }
 {

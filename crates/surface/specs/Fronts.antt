@@ -35,7 +35,7 @@ pub record Between (s : Sides) (u v : Voxel) (e : ℕ × ℕ) : Type 0 where
   pub first : On s u e
   pub second : On s v e
 
--- An edge lies on a face between a drawn and an undrawn cube.
+-- The front: faces with a drawn cube on one side and an undrawn one on the other.
 pub record On-front (s : Sides) (n : ℕ) (e : ℕ × ℕ) : Type 0 where
   pub drawn : ℕ
   pub undrawn : ℕ
@@ -48,7 +48,7 @@ pub record On-front (s : Sides) (n : ℕ) (e : ℕ × ℕ) : Type 0 where
 abbrev pub among : List (ℕ × ℕ) → ℕ × ℕ → Bool
 among es e = some (same e) es
 
--- The reverse of a laid edge is missing exactly when the edge lies on a face between a drawn and an undrawn cube.
+-- Of the laid edges, just those on the front of what is drawn lack their reverse.
 pub record Fronted (s : Sides) (p : Pair) (solid : Solids) (n : ℕ) : Type 0 where
   pub missing : (e : ℕ × ℕ) → In e (edges (laid s p solid n)) → T (not (among (edges (laid s p solid n)) (back e))) → On-front s n e
   pub front : (e : ℕ × ℕ) → In e (edges (laid s p solid n)) → On-front s n e → T (not (among (edges (laid s p solid n)) (back e)))

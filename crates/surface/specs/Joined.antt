@@ -21,8 +21,8 @@ apart v w = differ (eqb (v .x) (w .x)) + differ (eqb (v .y) (w .y)) + differ (eq
 abbrev pub Close : ℕ → ℕ → Type 0
 Close a b = (a ≤ suc b) × (b ≤ suc a)
 
--- Voxels that differ by at most 1 in each coordinate are 6-, 18- or 26-connected when they differ in exactly one,
--- in one or two, or in one to three coordinates.
+-- Neighbours are no more than one step apart along any axis; how many axes may be used is what the
+-- connectedness says.
 pub record Connected (c : Connectedness) (v w : Voxel) : Type 0 where
   pub x : Close (v .x) (w .x)
   pub y : Close (v .y) (w .y)

@@ -34,7 +34,7 @@ pub fn laid_once()
     ensures { λ _. ⌜ Laid-once ⌝ }
 {}
 
-// With a border of one kind, the reverse of a laid edge is missing just on the faces between drawn and undrawn cubes.
+// With a border of one kind, only edges on the front of what is drawn lack their reverse, and all of those do.
 pub fn open_at_front()
     ensures { λ _. ⌜ Open-at-front ⌝ }
 {}

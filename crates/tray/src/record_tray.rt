@@ -1,4 +1,4 @@
-// A tray over a list of triangle records, one place each.
+// A tray that keeps its triangles as records.
 ghost use Prim.Native.Nat.{_≤_};
 ghost use Rattle.std.specs.Of.Vec.{vec-cap, vec-len};
 use crate::triangle::Triangle;
