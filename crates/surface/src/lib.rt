@@ -1,4 +1,4 @@
-// The triangles of the first n cubes of a scan, and the laws of these, whatever the scan, every pair and every n.
+// The triangles of the first n cubes of a scan, and the laws of these, for every scan, pair and n.
 // There is nothing to compute here: each function carries one law on its contract.
 mod laws;
 
