@@ -1,4 +1,6 @@
 // Examples of the cube and of lists of calls, run as tests; nothing here is for use.
+#![tactic(auto)]
+
 #[cfg(test)]
 mod cubes;
 #[cfg(test)]

@@ -1,4 +1,6 @@
 // The surface inside one cube of eight voxels.
+#![tactic(auto)]
+
 mod mask;
 mod pair;
 mod patch;

@@ -1,4 +1,5 @@
 // Shows what the library makes of two galleries that pass each other, step by step.
+#![tactic(auto)]
 
 mod cubes;
 mod openings;

@@ -1,4 +1,6 @@
 // Drawings of scans: opening, drawing on, closing, and the report.
+#![tactic(auto)]
+
 mod asking;
 mod border;
 mod closed;

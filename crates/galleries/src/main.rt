@@ -1,4 +1,5 @@
 // Draws a housing with two galleries by lists of calls, and prints each call with its answer.
+#![tactic(auto)]
 
 mod drawings;
 mod housing;

@@ -1,4 +1,6 @@
 // The graph of a cube: its loops, and which of its voxels are joined.
+#![tactic(auto)]
+
 mod joining;
 mod trace;
 mod walk;

@@ -1,4 +1,6 @@
 // Sides, voxels, links and cubes of a scan, and their numbers.
+#![tactic(auto)]
+
 mod axis;
 mod cubes;
 mod link;

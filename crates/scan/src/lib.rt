@@ -1,4 +1,6 @@
 // Scans: readings on a grid of voxels, as blocks, phantoms and cut-outs.
+#![tactic(auto)]
+
 mod block;
 mod border;
 mod clip;

@@ -1,4 +1,6 @@
 // Any list of calls on one scan and some trays, and the laws of what they lay and answer.
+#![tactic(auto)]
+
 mod call;
 mod number;
 mod running;

@@ -1,5 +1,7 @@
 // The triangles of the first n cubes of a scan, and the laws of these, for every scan, pair and n.
 // There is nothing to compute here: each function carries one law on its contract.
+#![tactic(auto)]
+
 mod laws;
 
 pub use laws::{

@@ -1,4 +1,6 @@
 // Triangles of a surface, the trays that hold them, and their text.
+#![tactic(auto)]
+
 mod digits;
 mod line;
 mod pouring;

@@ -8,6 +8,6 @@ pub returns : goal.returns
 returns c =
     let k = kinds c.args.mask.0 in
     record {
-      value = c.by-pair.ensures;
-      laws = subst (Lawful c.args.pair k) (sym c.by-pair.ensures) (lawful c.args.pair k);
+      value = c.by_pair.ensures;
+      laws = subst (Lawful c.args.pair k) (sym c.by_pair.ensures) (lawful c.args.pair k);
     }

@@ -8,5 +8,5 @@ returns-then-not-is-opposite c = c.row-of-row.ensures ∙ no_tube (kinds c.args.
 
 pub returns : goal.returns
 returns c =
-    let made = tube_of (kinds c.args.mask.0) (search rules) c.row-of-row.result.count c.row-of-row.result.places c.row-of-row.ensures in
+    let made = tube_of (kinds c.args.mask.0) (search rules) c.row_of-row.result.count c.row_of-row.result.places c.row_of-row.ensures in
     ap (take 6) c.tube.ensures ∙ made

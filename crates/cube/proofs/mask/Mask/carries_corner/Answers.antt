@@ -14,8 +14,8 @@ pub returns : goal.returns
 returns c =
     let k = kinds c.args.self.0 in
     let l = c.args.link in
-    let low = c.is-solid.ensures ∙ ap (solid k) (get_or-map (λ e. e.0) links l (0, 0)) in
-    let high = c.is-solid-2.ensures ∙ ap (solid k) (get_or-map (λ e. e.1) links l (0, 0)) in (
+    let low = c.is_solid.ensures ∙ ap (solid k) (get_or-map (λ e. e.0) links l (0, 0)) in
+    let high = c.is_solid-2.ensures ∙ ap (solid k) (get_or-map (λ e. e.1) links l (0, 0)) in (
       λ h. ap₂ (λ a b. not (beq a b)) low high ∙ unlike (solid k (lower l)) (solid k (upper l)),
       λ h. let z : ⊥ = omega arith in absurd z,
     )

@@ -3,5 +3,5 @@ use Rattle.grid.proofs.sides.Sides.cube_at.Goals as goal
 
 pub returns : goal.returns
 returns c =
-    some_weaker c.place-at.result c.place-at.ensures (λ none. none)
+    some_weaker c.place_at.result c.place_at.ensures (λ none. none)
     (λ v told. cube_numbered c.args.self v c.args.number (inside_low c.args.self v told.0) told.1)

@@ -3,5 +3,5 @@ use Rattle.grid.proofs.sides.Sides.voxel_number.Goals as goal
 
 pub returns : goal.returns
 returns c =
-    some_weaker c.place-number.result c.place-number.ensures (λ none. none)
+    some_weaker c.place_number.result c.place_number.ensures (λ none. none)
     (λ n told. voxel_numbered c.args.self c.args.v n told.0 told.1)
