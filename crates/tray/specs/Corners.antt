@@ -1,6 +1,6 @@
 -- Which three numbers are the corners of a triangle. Assumes nothing.
 use Rattle.std.specs.Prelude.{◌≡◌, ℕ, ◌<◌, ◌≢◌}
-use Rattle.std.proofs.Math.Logic.{Dec·and, Dec·not}
+use Rattle.std.proofs.Math.Logic.Dec
 use Rattle.std.proofs.Math.Decide.{dec_lt, ℕ_discrete}
 
 -- A link number is below 50,331,648, three for each voxel of the largest scan.
@@ -24,6 +24,6 @@ all_three (no p) e d = no (λ h. p h.0)
 -- Whether they are can be told.
 pub corners? : (a b c : ℕ) → Dec (Corners a b c)
 corners? a b c =
-    Dec·and
+    Dec.and
     (all_three (dec_lt a 50331648) (dec_lt b 50331648) (dec_lt c 50331648))
-    (all_three (Dec·not (ℕ_discrete a b)) (Dec·not (ℕ_discrete b c)) (Dec·not (ℕ_discrete c a)))
+    (all_three (Dec.not (ℕ_discrete a b)) (Dec.not (ℕ_discrete b c)) (Dec.not (ℕ_discrete c a)))

@@ -3,8 +3,8 @@ use Rattle.cube.specs.Cube.{kinds}
 use Rattle.cube.proofs.Tubed.{tube_of, no_tube}
 use Rattle.cube.proofs.tube.with_tube.Goals as goal
 
-pub returns-then-not-is-opposite : goal.returns-then-not-is-opposite
-returns-then-not-is-opposite c = c.row-of-row.ensures ∙ no_tube (kinds c.args.mask.0) (search rules)
+pub returns-then-not-is_opposite : goal.returns-then-not-is_opposite
+returns-then-not-is_opposite c = c.row_of-row.ensures ∙ no_tube (kinds c.args.mask.0) (search rules)
 
 pub returns : goal.returns
 returns c =

@@ -11,8 +11,8 @@ pub loop-byte-init : goal.loop-byte-init
 unfolding digits
 loop-byte-init c = (omega arith, refl)
 
-pub returns-in-err-number : goal.returns-in-err-number
-returns-in-err-number c =
+pub returns-in_err-number : goal.returns-in_err-number
+returns-in_err-number c =
     let bs = c.args.bytes.now in
     let i = c.loop-byte.byte-index in
     let within : i < 8 = omega arith in
@@ -20,18 +20,18 @@ returns-in-err-number c =
     λ n small e.
     let same = ap (λ l. get_or l i 0) e in
     let digit = digit_at 8 n i within in
-    c.in-err-number.ensures (omega (arith, same, digit)) (omega (arith, same, digit)) in
-    record { told = rw c.from-residual.ensures none; value = rw c.from-residual.ensures tt }
+    c.in_err-number.ensures (omega (arith, same, digit)) (omega (arith, same, digit)) in
+    record { told = rw c.from_residual.ensures none; value = rw c.from_residual.ensures tt }
 
-pub overflow-mul-number : goal.overflow-mul-number
-overflow-mul-number c = record { fits = omega (arith, below_seven c.loop-byte.byte-index c.loop-byte.number (omega arith) c.loop-byte.invariant.0) }
+pub overflow_mul-number : goal.overflow_mul-number
+overflow_mul-number c = record { fits = omega (arith, below_seven c.loop-byte.byte-index c.loop-byte.number (omega arith) c.loop-byte.invariant.0) }
 
-pub overflow-add-number : goal.overflow-add-number
-overflow-add-number c = record { fits = omega (arith, below_seven c.loop-byte.byte-index c.loop-byte.number (omega arith) c.loop-byte.invariant.0) }
+pub overflow_add-number : goal.overflow_add-number
+overflow_add-number c = record { fits = omega (arith, below_seven c.loop-byte.byte-index c.loop-byte.number (omega arith) c.loop-byte.invariant.0) }
 
 pub loop-byte-preserved : goal.loop-byte-preserved
 loop-byte-preserved c =
-    let digit = c.in-ok-number.ensures in (
+    let digit = c.in_ok-number.ensures in (
       below_more c.loop-byte.byte-index c.loop-byte.number _ c.loop-byte.invariant.0 digit.0,
       read_more c.args.bytes.now c.loop-byte.byte-index c.loop-byte.number _ c.loop-byte-test.true digit.0 digit.1 c.loop-byte.invariant.1,
     )

@@ -13,4 +13,4 @@ returns-then-bytes-ne-CELL c = λ n small e.
     ]
 
 pub returns : goal.returns
-returns c = cell_read c.read-digits.result c.args.bytes.now (mark_byte c.args.mark) c.if-bytes-ne-CELL.false (c.if-bytes-byte.false ∙ c.byte.ensures) c.read-digits.ensures.told
+returns c = cell_read c.read_digits.result c.args.bytes.now (mark_byte c.args.mark) c.if-bytes-ne-CELL.false (c.if-bytes-byte.false ∙ c.byte.ensures) c.read_digits.ensures.told

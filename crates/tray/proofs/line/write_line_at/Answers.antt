@@ -4,4 +4,4 @@ use Rattle.tray.proofs.line.write_line_at.Goals as goal
 
 pub returns : goal.returns
 returns c =
-    (omega arith, place_written c.args.bytes.now _ _ c.args.n c.args.triangle c.line-start-start.ensures c.write-line.ensures)
+    (omega arith, place_written c.args.bytes.now _ _ c.args.n c.args.triangle c.line_start-start.ensures c.write_line.ensures)

@@ -8,20 +8,20 @@ use Rattle.tray.proofs.text.count.Goals as goal
 pub loop-n-init : goal.loop-n-init
 loop-n-init c = front_none c.args.text.now
 
-pub returns-then-is-none : goal.returns-then-is-none
-returns-then-is-none c =
+pub returns-then-is_none : goal.returns-then-is_none
+returns-then-is_none c =
     let bs = c.args.text.now in
     let n = c.loop-n.n in
-    let r = c.read-line-at.result in
-    let fault = fault_line bs n c.loop-n.invariant (omega arith) r c.read-line-at.ensures c.if-is-none.ensures in
+    let r = c.read_line_at.result in
+    let fault = fault_line bs n c.loop-n.invariant (omega arith) r c.read_line_at.ensures c.if-is_none.ensures in
     record { told = fault; back = counted_back bs (Err (Line (n + 1))) fault }
 
 pub loop-n-preserved : goal.loop-n-preserved
 loop-n-preserved c =
     let bs = c.args.text.now in
     let n = c.loop-n.n in
-    let r = c.read-line-at.result in
-    front_more bs n r (omega arith) c.loop-n.invariant c.read-line-at.ensures c.if-is-none.ensures
+    let r = c.read_line_at.result in
+    front_more bs n r (omega arith) c.loop-n.invariant c.read_line_at.ensures c.if-is_none.ensures
 
 pub returns-then-lines-text : goal.returns-then-lines-text
 returns-then-lines-text c =

@@ -6,7 +6,7 @@ use Rattle.tray.proofs.BufferLaws.{Spells, length_spelled, spelled_at}
 use Rattle.tray.proofs.Listed.{take_nth}
 use Rattle.tray.proofs.Trays.{laid_none, laid_more}
 use Rattle.tray.proofs.text.put_lines.Goals as goal
-use Rattle.tray.proofs.text.put_lines.Goals.{in-Some, in-default}
+use Rattle.tray.proofs.text.put_lines.Goals.{in-Some, in_default}
 
 pub loop-n-init : goal.loop-n-init
 loop-n-init g c = laid_none g.T.Tray.lawful c.args.into.now
@@ -20,18 +20,18 @@ loop-n-preserved g c =
     let bs = c.args.text.now in
     let lines = c.args.lines in
     let n = c.loop-n.n in
-    let r = c.read-line-at.result in
+    let r = c.read_line_at.result in
     let ts = spelled_by lines bs in
     let spells = spells_whole bs lines c.requires.long c.requires.spelled in
     let within : n < length ts = omega (arith, length_spelled bs lines spells) in
-    let is = spelled_at bs lines n r spells c.loop-n-test.true c.read-line-at.ensures in
-    elim c.match-read-line-at.branch [
+    let is = spelled_at bs lines n r spells c.loop-n-test.true c.read_line_at.ensures in
+    elim c.match-read_line_at.branch [
       | in-Some w ↦
           let more = take_nth ts n w.in-Some.triangle (subst (Nth ts n) w.in-Some.is is) in
           let room : length (take n ts) < (g.T.Tray.holds c.args.into.now).free = omega (arith, length-take-le n ts (omega arith), c.requires.room) in
           let laid = laid_more g.T.Tray.lawful c.args.into.now c.loop-n.into w.put.new.self (take n ts) w.in-Some.triangle w.put.result c.loop-n.invariant room w.put.ensures.put w.put.ensures.rest in
           rw (more, w.into-is) laid
-      | in-default w ↦ absurd (omega (arith, within, subst (Nth ts n) w.in-default.is is))
+      | in_default w ↦ absurd (omega (arith, within, subst (Nth ts n) w.in_default.is is))
     ]
 
 pub returns : goal.returns

@@ -10,5 +10,5 @@ returns c =
     let n = c.args.self.count in
     let xs = c.args.self.places in
     let whole : length xs ≡ 6 = search rules in
-    simp (c.turned_over.ensures, c.turned_over-2.ensures, c.turned_over-3.ensures, c.turned-over-4.ensures, c.turned-over-5.ensures, c.turned-over-6.ensures)
+    simp (c.turned_over.ensures, c.turned_over-2.ensures, c.turned_over-3.ensures, c.turned_over-4.ensures, c.turned_over-5.ensures, c.turned_over-6.ensures)
     (ap (λ ys. take n (map turn_over ys)) (six (triangle 0 0 0) xs whole) ∙ take-map turn_over n xs)

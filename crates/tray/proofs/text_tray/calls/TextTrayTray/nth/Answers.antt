@@ -7,6 +7,6 @@ pub returns : goal.returns
 returns c =
     let s = c.args.self.now in
     let n = c.args.n in
-    let r = c.read-line-at.result in
-    let told = subst (λ l. LineRead (take 27 (drop (27 * n) l)) r) c.as-slice.ensures.value c.read-line-at.ensures in
+    let r = c.read_line_at.result in
+    let told = subst (λ l. LineRead (take 27 (drop (27 * n) l)) r) c.as_slice.ensures.value c.read_line_at.ensures in
     spelled_at s.bytes.items s.held n r (record { within = s.within; text = s.text }) c.if-n-self.false told
