@@ -60,7 +60,7 @@ module _ (s : Sides) (p : Pair) (solid : Solids) (n : ℕ) (h : n ≤ cube_count
   found_links : (m : ℕ) (f : Found m) → Links s (link_at (low_of s f.cube) f.link)
   found_links m f =
       let lt : f.cube < cube_count s = omega (arith, f.drawn) in
-      links_at s (low_of s f.cube) (low_is s f.cube lt) f.link f.link-of
+      links_at s (low_of s f.cube) (low_is s f.cube lt) f.link f.link_of
 
   only_corner : (k : Link) → Links s k → (f : Found (link_number_of s k)) → Drawn s n k × T (crosses solid k)
   only_corner k l f =
@@ -71,7 +71,7 @@ module _ (s : Sides) (p : Pair) (solid : Solids) (n : ℕ) (h : n ≤ cube_count
           drawn = f.drawn;
           link =
               subst (λ i. In i (map (link_at (low_of s f.cube)) link_numbers)) (sym same)
-              (in_map (link_at (low_of s f.cube)) f.link link_numbers f.link-of);
+              (in_map (link_at (low_of s f.cube)) f.link link_numbers f.link_of);
         },
         subst (λ i. T (crosses solid i)) (sym same) f.crosses,
       )

@@ -9,7 +9,7 @@ loop-step-init c = ap (spread_times 7 c.args.c (kinds c.args.mask.0)) c.seed-mar
 pub loop-step-preserved : goal.loop-step-preserved
 loop-step-preserved c =
     let k = kinds c.args.mask.0 in
-    let i = c.loop-step.-step in
+    let i = c.loop-step._step in
     let less : 7 - i ≡ suc (7 - (i + 1)) = omega arith in
     ap (spread_times (7 - (i + 1)) c.args.c k) c.spread-marked.ensures
     ∙ sym (ap (λ n. spread_times n c.args.c k c.loop-step.marked) less)
@@ -17,5 +17,5 @@ loop-step-preserved c =
 
 pub returns : goal.returns
 returns c =
-    let none : 7 - c.loop-step.-step ≡ 0 = omega arith in
+    let none : 7 - c.loop-step._step ≡ 0 = omega arith in
     sym (ap (λ n. spread_times n c.args.c (kinds c.args.mask.0) c.loop-step.marked) none) ∙ c.loop-step.invariant

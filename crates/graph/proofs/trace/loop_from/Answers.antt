@@ -16,8 +16,8 @@ successor-at-requires c = c.loop-step.invariant.0
 pub returns-then-at-link : goal.returns-then-at-link
 returns-then-at-link c =
     let es = graph c.args.s (kinds c.args.mask.0) in
-    c.in-ok-push.ensures.items
-    ∙ trail_last es c.args.link c.loop-step.-step c.loop-step.at c.successor-at.result
+    c.in_ok-push.ensures.items
+    ∙ trail_last es c.args.link c.loop-step._step c.loop-step.at c.successor-at.result
     (vec_items c.loop-step.corners) (loop_from es c.args.link) c.loop-step-test.true
     c.successor-at.ensures.0 c.if-at-link.true c.loop-step.invariant.1
 
@@ -25,8 +25,8 @@ pub loop-step-preserved : goal.loop-step-preserved
 loop-step-preserved c =
     let es = graph c.args.s (kinds c.args.mask.0) in (
       c.successor-at.ensures.1,
-      ap (λ ys. ys ++ trail (12 - (c.loop-step.-step + 1)) es c.args.link c.successor-at.result) c.in-ok-push.ensures.items
-          ∙ trail_more es c.args.link c.loop-step.-step c.loop-step.at c.successor-at.result
+      ap (λ ys. ys ++ trail (12 - (c.loop-step._step + 1)) es c.args.link c.successor-at.result) c.in_ok-push.ensures.items
+          ∙ trail_more es c.args.link c.loop-step._step c.loop-step.at c.successor-at.result
           (vec_items c.loop-step.corners) (loop_from es c.args.link) c.loop-step-test.true
           c.successor-at.ensures.0 c.if-at-link.false c.loop-step.invariant.1,
     )
@@ -34,5 +34,5 @@ loop-step-preserved c =
 pub returns : goal.returns
 returns c =
     let es = graph c.args.s (kinds c.args.mask.0) in
-    trail_end es c.args.link c.loop-step.-step c.loop-step.at (vec_items c.loop-step.corners)
+    trail_end es c.args.link c.loop-step._step c.loop-step.at (vec_items c.loop-step.corners)
     (loop_from es c.args.link) c.loop-step-test.false c.loop-step.invariant.1

@@ -8,4 +8,4 @@ use Rattle.graph.proofs.trace.loop_from.Given as goal
 abbrev pub invariant-loop-step : goal.invariant-loop-step
 invariant-loop-step l =
     let es = graph l.s (kinds l.mask.0) in
-    (l.at < 12) × (vec_items l.corners ++ trail (12 - l.-step) es l.link l.at ≡ loop_from es l.link)
+    (l.at < 12) × (vec_items l.corners ++ trail (12 - l._step) es l.link l.at ≡ loop_from es l.link)

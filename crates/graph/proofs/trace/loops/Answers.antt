@@ -7,7 +7,7 @@ use Rattle.cube.specs.Loops.{loop_from, loops_of}
 use Rattle.graph.proofs.Found.{loops_past, past_level, past_higher, past_lowest, past_all, push_read, read_on}
 use Rattle.graph.proofs.Looped.{looped}
 use Rattle.graph.proofs.trace.loops.Goals as goal
-use Rattle.graph.proofs.trace.loops.Goals.{then-carries-corner+in-ok-corners+then-none-below+in-ok-push, then-carries-corner+in-ok-corners+else-none-below, else-carries-corner}
+use Rattle.graph.proofs.trace.loops.Goals.{then-carries_corner+in_ok-corners+then-none_below+in_ok-push, then-carries_corner+in_ok-corners+else-none_below, else-carries_corner}
 
 pub loop-link-init : goal.loop-link-init
 loop-link-init c =
@@ -20,23 +20,23 @@ loop-link-preserved c =
     let es = graph c.args.s k in
     let i = c.loop-link.link in
     let h = c.loop-link-test.true in
-    let cross = c.carries-corner.ensures.0 h in
+    let cross = c.carries_corner.ensures.0 h in
     let found = vec_items c.loop-link.found in
-    elim c.if-carries-corner.branch [
-      | then-carries-corner+in-ok-corners+then-none-below+in-ok-push w ↦
-          let loop : vec_items w.in-ok-corners.corners ≡ loop_from es i = w.in-ok-corners.ensures in
-          let low = ap (every (leb i)) (sym loop ∙ sym w.deref.ensures.value) ∙ sym w.none-below.ensures ∙ w.if-none-below.true in
-          let next = past_lowest k es i h (sym cross ∙ w.if-carries-corner.true) low in
-          read_on vec_items vec_items (loops_past k es (i + 1)) w.found-is w.in-ok-push.ensures.items
-          (push_read vec_items found w.in-ok-corners.corners (loops_past k es (i + 1))
+    elim c.if-carries_corner.branch [
+      | then-carries_corner+in_ok-corners+then-none_below+in_ok-push w ↦
+          let loop : vec_items w.in_ok-corners.corners ≡ loop_from es i = w.in_ok-corners.ensures in
+          let low = ap (every (leb i)) (sym loop ∙ sym w.deref.ensures.value) ∙ sym w.none_below.ensures ∙ w.if-none_below.true in
+          let next = past_lowest k es i h (sym cross ∙ w.if-carries_corner.true) low in
+          read_on vec_items vec_items (loops_past k es (i + 1)) w.found-is w.in_ok-push.ensures.items
+          (push_read vec_items found w.in_ok-corners.corners (loops_past k es (i + 1))
           ∙ ap (λ l. map vec_items found ++ (l ∷ loops_past k es (i + 1))) loop ∙ ap (λ ls. map vec_items found ++ ls) (sym next) ∙ c.loop-link.invariant)
-      | then-carries-corner+in-ok-corners+else-none-below w ↦
-          let loop : vec_items w.in-ok-corners.corners ≡ loop_from es i = w.in-ok-corners.ensures in
-          let low = ap (every (leb i)) (sym loop ∙ sym w.deref.ensures.value) ∙ sym w.none-below.ensures ∙ w.if-none-below.false in
-          let next = past_higher k es i h (sym cross ∙ w.if-carries-corner.true) low in
+      | then-carries_corner+in_ok-corners+else-none_below w ↦
+          let loop : vec_items w.in_ok-corners.corners ≡ loop_from es i = w.in_ok-corners.ensures in
+          let low = ap (every (leb i)) (sym loop ∙ sym w.deref.ensures.value) ∙ sym w.none_below.ensures ∙ w.if-none_below.false in
+          let next = past_higher k es i h (sym cross ∙ w.if-carries_corner.true) low in
           read_on vec_items vec_items (loops_past k es (i + 1)) w.found-is refl (ap (λ ls. map vec_items found ++ ls) (sym next) ∙ c.loop-link.invariant)
-      | else-carries-corner w ↦
-          let next = past_level k es i h (sym cross ∙ w.if-carries-corner.false) in
+      | else-carries_corner w ↦
+          let next = past_level k es i h (sym cross ∙ w.if-carries_corner.false) in
           read_on vec_items vec_items (loops_past k es (i + 1)) w.found-is refl (ap (λ ls. map vec_items found ++ ls) (sym next) ∙ c.loop-link.invariant)
     ]
 

@@ -2,8 +2,8 @@ use Rattle.std.proofs.Common.{sym, arith}
 use Rattle.scan.specs.Laws.Painting.{shapes_true, first_reads, none_reads}
 use Rattle.scan.proofs.painted.reading.Goals as goal
 
-pub overflow-cast-result : goal.overflow-cast-result
-overflow-cast-result c =
+pub overflow_cast-result : goal.overflow_cast-result
+overflow_cast-result c =
     let fit = (shapes_true c.args.shapes.now c.requires).1 c.loop-shape.shape-index c.loop-shape-test.true in
     omega (arith, fit.0)
 

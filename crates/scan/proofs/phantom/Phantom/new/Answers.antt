@@ -5,9 +5,9 @@ use Rattle.scan.specs.Laws.Painting.{true_shapes}
 use Rattle.scan.proofs.Makers.{sides_fit, spacing_fits, shows_shapes}
 use Rattle.scan.proofs.phantom.Phantom.new.Goals as goal
 
-pub returns-then-not-all-fit : goal.returns-then-not-all-fit
-returns-then-not-all-fit c =
-    let test = ap shapes_fit (sym c.as-slice.ensures.value) ∙ sym c.if-not-all-fit.ensures in
+pub returns-then-not-all_fit : goal.returns-then-not-all_fit
+returns-then-not-all_fit c =
+    let test = ap shapes_fit (sym c.as_slice.ensures.value) ∙ sym c.if-not-all_fit.ensures in
     let sides = sides_fit c.in-Some.sides c.args.sides c.in-Some.ensures in
     let spacing = spacing_fits c.in-Some-new.spacing c.args.spacing c.in-Some-new.ensures in
     record {
@@ -18,7 +18,7 @@ returns-then-not-all-fit c =
 
 pub returns : goal.returns
 returns c =
-    let test = ap shapes_fit (sym c.as-slice.ensures.value) ∙ sym c.if-not-all-fit.ensures in
+    let test = ap shapes_fit (sym c.as_slice.ensures.value) ∙ sym c.if-not-all_fit.ensures in
     record {
       shows = shows_shapes c.in-Some.sides c.args.sides (vec_items c.args.shapes) c.in-Some.ensures test;
       kept = (refl, c.in-Some-new.ensures);

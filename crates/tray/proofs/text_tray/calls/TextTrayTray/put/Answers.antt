@@ -16,7 +16,7 @@ next_items v ws n t room e = with_items_is v ws (ap length e ∙ length_with_lin
 
 -- What the ghost fields say of n lines in the bytes.
 abbrev Kept : ℕ → List ℕ → Type 0
-Kept n bs = (27 * n ≤ length bs) × ((length (spelled_by n bs) ≡ n) × ((text_of (spelled_by n bs) ≡ take (27 * n) bs) × Unit {0}))
+Kept n bs = record { within : 27 * n ≤ length bs; count : length (spelled_by n bs) ≡ n; text : text_of (spelled_by n bs) ≡ take (27 * n) bs }
 
 pub invariant_of-self : goal.invariant_of-self
 invariant_of-self c =
@@ -25,7 +25,7 @@ invariant_of-self c =
     let ws = c.write_line_at.new.bytes in
     let same : ws ≡ v.items = c.in_err-write_line_at.ensures.1 ∙ c.as_mut_slice.ensures.value in
     let items = with_items_is v ws (ap length same ∙ sym v.ok.0) ∙ same in
-    subst (Kept s.held) (sym items) (s.within, (s.count, (s.text, tt)))
+    subst (Kept s.held) (sym items) (record { within = s.within; count = s.count; text = s.text })
 
 pub returns-in_err-write_line_at : goal.returns-in_err-write_line_at
 returns-in_err-write_line_at c =
@@ -54,7 +54,7 @@ invariant_of-self-2 c =
     let room : 27 * n + 27 ≤ length v.items = omega (arith, told.0, ap length value) in
     let items = next_items v c.write_line_at.new.bytes n c.args.triangle room (told.1 ∙ ap (λ l. with_line l n c.args.triangle) value) in
     let next = spells_next v.items n c.args.triangle (record { within = s.within; text = s.text }) room in
-    subst (Kept (n + 1)) (sym items) (next.within, (length_spelled _ (n + 1) next, (next.text, tt)))
+    subst (Kept (n + 1)) (sym items) (record { within = next.within; count = length_spelled _ (n + 1) next; text = next.text })
 
 pub returns : goal.returns
 returns c =
