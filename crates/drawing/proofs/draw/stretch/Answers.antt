@@ -6,11 +6,11 @@ use Rattle.drawing.proofs.draw.stretch.Goals as goal
 pub loop-number-init : goal.loop-number-init
 loop-number-init g c = reached_none g.T.Tray.lawful (g.S.Scan.means c.args.scan.now) c.args.drawing.now c.args.tray.now
 
-pub overflow-add-laid : goal.overflow-add-laid
-overflow-add-laid g c =
+pub overflow_add-laid : goal.overflow_add-laid
+overflow_add-laid g c =
     Fits-below {n = 100663302} tt
     (omega (arith, c.loop-number.invariant.few, c.in-Ok.ensures.2, c.requires, cubes_bound c.args.drawing.now.sides, c.loop-number-test.true))
 
 pub loop-number-preserved : goal.loop-number-preserved
 loop-number-preserved g c =
-    reached_more g.T.Tray.lawful (g.S.Scan.means c.args.scan.now) c.args.drawing.now c.loop-number.number c.args.tray.now c.loop-number.tray c.lay-cube.new.tray c.loop-number.laid c.in-Ok.count c.loop-number.invariant c.in-Ok.ensures
+    reached_more g.T.Tray.lawful (g.S.Scan.means c.args.scan.now) c.args.drawing.now c.loop-number.number c.args.tray.now c.loop-number.tray c.lay_cube.new.tray c.loop-number.laid c.in-Ok.count c.loop-number.invariant c.in-Ok.ensures

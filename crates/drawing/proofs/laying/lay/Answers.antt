@@ -5,13 +5,13 @@ use Rattle.surface.specs.Laid.{numbered}
 use Rattle.drawing.specs.Laying.{LaidIn, corners}
 use Rattle.drawing.proofs.Lays.{at_in, map_more, lays_none, lays_more}
 use Rattle.drawing.proofs.laying.lay.Goals as goal
-use Rattle.drawing.proofs.laying.lay.Goals.{in-Some, in-default}
+use Rattle.drawing.proofs.laying.lay.Goals.{in-Some, in_default}
 
 pub loop-t-init : goal.loop-t-init
 loop-t-init g c = lays_none g.T.Tray.lawful c.args.tray.now
 
-pub triangle-of-requires : goal.triangle-of-requires
-triangle-of-requires g c =
+pub triangle_of-requires : goal.triangle_of-requires
+triangle_of-requires g c =
     record { low = c.requires.low; links = (c.requires.layable _ (at_in c.args.cube.now c.loop-t.t-index (0, 0, 0) (omega arith))).0 }
 
 pub loop-t-preserved : goal.loop-t-preserved
@@ -24,7 +24,7 @@ loop-t-preserved g c =
     let here : i < length cube = omega arith in
     let t = get_or cube i (0, 0, 0) in
     let long : length (map f (take i cube)) ≡ i = length-map (take i cube) f ∙ length-take-le i cube (omega arith) in
-    elim c.match-triangle-of.branch [
+    elim c.match-triangle_of.branch [
       | in-Some w ↦
           let room : length (map f (take i cube)) < (holds c.args.tray.now).free = omega (arith, long, c.requires.room) in
           let more = lays_more g.T.Tray.lawful c.args.tray.now c.loop-t.tray w.put.new.self (map f (take i cube)) w.in-Some.triangle w.put.result c.loop-t.invariant room w.put.ensures.put w.put.ensures.rest in
@@ -32,7 +32,7 @@ loop-t-preserved g c =
           ap (λ u. map f (take i cube) ++ u ∷ []) w.in-Some.ensures ∙ sym (map_more f cube i (0, 0, 0) here) in
           subst (λ e. LaidIn holds keeps c.args.tray.now e (map f (take (i + 1) cube))) (sym w.tray-is)
           (subst (LaidIn holds keeps c.args.tray.now w.put.new.self) here-laid more)
-      | in-default w ↦ absurd (w.in-default.ensures (c.requires.layable t (at_in cube i (0, 0, 0) here)).1)
+      | in_default w ↦ absurd (w.in_default.ensures (c.requires.layable t (at_in cube i (0, 0, 0) here)).1)
     ]
 
 pub returns : goal.returns

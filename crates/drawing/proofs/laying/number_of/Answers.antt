@@ -10,7 +10,7 @@ returns-in-None c =
     let s = c.args.sides in
     absurd
     (c.in-None.ensures
-    (subst (Links s) (sym c.link-of.ensures) (links_at s c.args.low c.requires.low c.args.link (cube_link c.args.link c.requires.link))))
+    (subst (Links s) (sym c.link_of.ensures) (links_at s c.args.low c.requires.low c.args.link (cube_link c.args.link c.requires.link))))
 
 pub returns-in-Some : goal.returns-in-Some
-returns-in-Some c = c.in-Some.ensures.number ∙ ap (link_number_of c.args.sides) c.link-of.ensures
+returns-in-Some c = c.in-Some.ensures.number ∙ ap (link_number_of c.args.sides) c.link_of.ensures

@@ -7,8 +7,8 @@ pub loop-i-preserved : goal.loop-i-preserved
 loop-i-preserved g c =
     let m = g.S.Scan.means c.args.scan.now in
     let i = c.loop-i.i in
-    let here : m.at (voxel_at c.args.low i) ≡ Ok c.in-Ok.reading = ap m.at (sym c.voxel-of-voxel.ensures) ∙ sym c.read.ensures.answer ∙ c.in-Ok.is in
-    let kind : c.is-solid.result ≡ solids_of c.args.test m (voxel_at c.args.low i) = c.is-solid.ensures ∙ sym (ap (solid_answer c.args.test) here) in (
+    let here : m.at (voxel_at c.args.low i) ≡ Ok c.in-Ok.reading = ap m.at (sym c.voxel_of-voxel.ensures) ∙ sym c.read.ensures.answer ∙ c.in-Ok.is in
+    let kind : c.is_solid.result ≡ solids_of c.args.test m (voxel_at c.args.low i) = c.is_solid.ensures ∙ sym (ap (solid_answer c.args.test) here) in (
       simp length-set c.loop-i.invariant.0,
       below_more _ _ c.loop-i.invariant.1 (ap is_ok here),
       below_more _ _
