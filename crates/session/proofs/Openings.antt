@@ -1,6 +1,6 @@
 -- Two openings of one scan, the second asked by a way of calling, end alike. Assumes nothing.
 use Rattle.std.proofs.Common.{◌≡◌, ℕ, Bool, cond, not, eqb, ◌⊎◌, Ok, Err, Result, sym, refl, ap, ◌∙◌, inl, inr, arith}
-use mathlib.Core.Bool.{not_not}
+use mathlib.Core.Bool.{not-not}
 use Rattle.grid.specs.Voxels.{OnBorder}
 use Rattle.grid.specs.declared.sides.Sides.{Sides}
 use Rattle.grid.specs.declared.voxel.Voxel.{Voxel}
@@ -69,7 +69,7 @@ same_pair p q e = sym (pair_back p) ∙ ap pair_of e ∙ pair_back q
 -- Kinds are the same just where they are by a way.
 kind_back : (way : Way) (a b : Bool) → kind_by way a ≡ kind_by way b → a ≡ b
 kind_back again a b e = e
-kind_back exchanged a b e = sym (not_not a) ∙ ap not e ∙ not_not b
+kind_back exchanged a b e = sym (not-not a) ∙ ap not e ∙ not-not b
 
 -- The voxel with number 0 is on the border.
 origin_on_border : (s : Sides) → OnBorder s origin

@@ -28,16 +28,16 @@ returns-in-Opened g c =
     let lt : t < length hs = omega (arith, length-map trays holds, c.if-tray-trays.false) in
     record {
       tries =
-          drew m c.args.budget t c.args.state hs _ d d' (holds x) (holds y) r c.draw-answer.result c.in-Opened.is
-          (at_tray holds trays t _ c.if-tray-trays.false) lt law c.draw-answer.ensures (map-set holds trays t y);
+          drew m c.args.budget t c.args.state hs _ d d' (holds x) (holds y) r c.draw_answer.result c.in-Opened.is
+          (at_tray holds trays t _ c.if-tray-trays.false) lt law c.draw_answer.ensures (map-set holds trays t y);
       rest =
           all_set g.T.Tray.lawful trays t c.index-trays-tray.result y c.if-tray-trays.false
           (kept_by g.T.Tray.lawful x y (draw_places m c.args.budget d d' (holds x) (holds y) r law) c.draw-result.ensures.rest);
     }
 
-pub returns-in-default : goal.returns-in-default
-returns-in-default g c =
+pub returns-in_default : goal.returns-in_default
+returns-in_default g c =
     record {
-      tries = ([], λ ts. inr (λ can. absurd (c.in-default.not-Opened can.0.0 can.0.1), refl, no_more _ _ ts));
+      tries = ([], λ ts. inr (λ can. absurd (c.in_default.not-Opened can.0.0 can.0.1), refl, no_more _ _ ts));
       rest = all_still g.T.Tray.lawful c.args.trays.now;
     }
