@@ -1,10 +1,9 @@
 -- The bits of a mask and the kinds that they tell. Assumes nothing.
 use Rattle.std.proofs.Common.{◌≡◌, ℕ, zero, suc, ◌+◌, ◌-◌, ◌*◌, ◌<◌, Bool, true, false, not, T, refl, arith}
 use mir.Val.{bool_byte}
-use Rattle.cube.specs.Lists.{every, In}
+use Rattle.cube.specs.Lists.{every}
 use Rattle.cube.specs.Cube.{Kinds, solid, exchange, bit, kinds, voxels}
 use Rattle.cube.proofs.Listed.{every_at}
-use Rattle.cube.specs.Everywhere.{all_kinds}
 use Rattle.cube.proofs.Everywhere.{everywhere}
 use Rattle.cube.proofs.Masks.{at}
 use Rattle.cube.proofs.Voxels.{solid_voxel}

@@ -1,7 +1,6 @@
 -- What holds of every cube, from one test that is computed at each of the 256 kinds. Assumes nothing.
 use Rattle.std.proofs.Common.{Bool, true, false, T}
 use Rattle.cube.specs.Cube.{Kinds}
-use Rattle.cube.specs.Lists.{both}
 use Rattle.cube.specs.Everywhere.{either, kinds_of, all_kinds}
 use Rattle.cube.proofs.Listed.{both_left, both_right}
 

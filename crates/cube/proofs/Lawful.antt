@@ -1,5 +1,5 @@
 -- The triangles of every cube keep the laws, under each pair. Assumes nothing.
-use Rattle.std.proofs.Common.{◌≡◌, Bool, true, false, not, T, leb, List, [], ◌∷◌, map, length, sym, refl, ap, ◌∙◌, ap₂, leb→le}
+use Rattle.std.proofs.Common.{◌≡◌, Bool, true, false, not, leb, List, [], ◌∷◌, map, length, sym, refl, ap, leb→le}
 use Rattle.cube.specs.Lists.{gather, both}
 use Rattle.cube.specs.Cube.{Kinds, exchange}
 use Rattle.cube.specs.Pairs.{swap}

@@ -1,5 +1,5 @@
 -- What holds at every mask, from one test that is computed at each of the 256. Assumes nothing.
-use Rattle.std.proofs.Common.{◌≡◌, ℕ, zero, suc, ◌+◌, ◌/◌, ◌%◌, ◌<◌, ◌≤◌, Bool, true, false, T, eqb, leb, List, [], ◌∷◌, get_or, take, sym, refl, ◌∙◌, subst, ap₂, le_of_suc-le-suc, not-suc-le-zero, add-zero, add-suc, suc-add, zero-add, eqb→eq, leb→le}
+use Rattle.std.proofs.Common.{◌≡◌, ℕ, zero, suc, ◌+◌, ◌/◌, ◌%◌, ◌<◌, ◌≤◌, Bool, T, eqb, leb, List, [], ◌∷◌, get_or, take, sym, refl, ◌∙◌, subst, ap₂, le_of_suc-le-suc, not-suc-le-zero, add-zero, add-suc, suc-add, zero-add, eqb→eq, leb→le}
 use Rattle.cube.specs.Lists.{both}
 use Rattle.cube.specs.Rows.{same_triangle, same_triangles, passes, row_ruled, Ruled}
 use Rattle.cube.specs.Cube.{kinds}

@@ -1,5 +1,5 @@
 -- What is reached by spreading marks is just what is joined. Assumes nothing.
-use Rattle.std.proofs.Common.{◌≡◌, ℕ, zero, suc, ◌≤◌, Bool, true, false, T, eqb, leb, ◌⊎◌, List, [], ◌∷◌, map, get_or, sym, subst, inl, inr, ⊎_elim, eqb→eq, leb→le}
+use Rattle.std.proofs.Common.{◌≡◌, ℕ, zero, suc, Bool, true, false, T, eqb, leb, List, map, get_or, sym, subst, ⊎_elim, eqb→eq, leb→le}
 use Rattle.cube.specs.Cube.{Kinds, solid, voxels}
 use Rattle.cube.specs.Pairs.{Connected, apart, reach}
 use Rattle.cube.specs.Joined.{Joined, one, step, connected, touching, touches, taken, spread, spread_times, begun, seed, reached}

@@ -1,5 +1,5 @@
 -- The laws of the triangles of a cube as one test for each pair, and the laws from the test. Assumes nothing.
-use Rattle.std.proofs.Common.{◌≡◌, ℕ, ◌≤◌, Bool, true, false, not, T, eqb, leb, List, [], ◌∷◌, map, length, get_or, subst, ⊎_elim, eqb→eq, leb→le}
+use Rattle.std.proofs.Common.{ℕ, Bool, true, false, T, eqb, leb, List, length, get_or, subst, ⊎_elim, eqb→eq}
 use Rattle.cube.specs.Lists.{gather, every, some, same, In, Distinct, both}
 use Rattle.cube.specs.Cube.{Face, faces, Kinds, solid, exchange}
 use Rattle.cube.specs.Pairs.{of_solid, of_hollow}
@@ -11,8 +11,7 @@ use Rattle.cube.specs.Joined.{Joined, one, step, connected, reached}
 use Rattle.cube.specs.Laws.{edges, corners_of, solid_end, hollow_end, most, Lies}
 use Rattle.cube.specs.declared.pair.Connectedness.{Connectedness}
 use Rattle.cube.specs.declared.pair.Pair.{Pair}
-use Rattle.cube.specs.declared.triangle.CubeTriangle.{CubeTriangle}
-use Rattle.cube.proofs.Listed.{and_left, or_cases, when, every_at, some_at, found, distinct, distinct_is, same_is, same_itself, both_left, both_right}
+use Rattle.cube.proofs.Listed.{or_cases, when, every_at, some_at, found, distinct, distinct_is, same_is, same_itself, both_left, both_right}
 use Rattle.cube.proofs.Reached.{connected_is, reached_joined}
 
 -- One step leads from a to b, or several do.

@@ -1,5 +1,5 @@
 -- The tube of a mask from the two triangles that its row has. Assumes nothing.
-use Rattle.std.proofs.Common.{◌≡◌, ℕ, ◌≤◌, Bool, true, false, T, leb, List, [], ◌∷◌, length, get_or, take, sym, refl, ap, ◌∙◌, subst, ap₂, arith, leb→le, length-take, get_or-take}
+use Rattle.std.proofs.Common.{◌≡◌, ℕ, ◌≤◌, Bool, true, false, T, leb, List, length, get_or, take, sym, refl, ap, ◌∙◌, subst, ap₂, arith, leb→le, length-take, get_or-take}
 use Rattle.cube.specs.Cube.{Kinds}
 use Rattle.cube.specs.Cutting.{triangle}
 use Rattle.cube.specs.Triangles.{cut_all, opposite, tube, with_tube}

@@ -1,5 +1,5 @@
 -- Which voxels of a cube are joined. Assumes nothing.
-use Rattle.std.specs.Prelude.{ℕ, zero, suc, Bool, true, false, T, leb, List, [], ◌∷◌, map, ◌==◌, nat_le, slice_index_or}
+use Rattle.std.specs.Prelude.{ℕ, zero, suc, Bool, true, false, T, leb, List, map, ◌==◌, nat_le, slice_index_or}
 use Rattle.cube.specs.Lists.{some}
 use Rattle.cube.specs.Cube.{Kinds, solid, voxels}
 use Rattle.cube.specs.Pairs.{Connected, apart, reach}

@@ -1,10 +1,10 @@
 -- What holds of the triangles of every cube, under each of the four pairs. Assumes nothing.
-use Rattle.std.specs.Prelude.{◌≡◌, ℕ, ◌≤◌, Bool, true, false, T, List, [], ◌∷◌, map, length}
+use Rattle.std.specs.Prelude.{◌≡◌, ℕ, ◌≤◌, true, false, T, List, [], ◌∷◌, map, length}
 use Rattle.cube.specs.Lists.{gather, In, Distinct}
-use Rattle.cube.specs.Cube.{Face, faces, face_links, Kinds, solid, exchange, lower, upper}
+use Rattle.cube.specs.Cube.{Face, faces, Kinds, solid, exchange, lower, upper}
 use Rattle.cube.specs.Pairs.{of_solid, of_hollow, swap}
 use Rattle.cube.specs.Graph.{graph_on}
-use Rattle.cube.specs.Loops.{corners, loops}
+use Rattle.cube.specs.Loops.{corners}
 use Rattle.cube.specs.Cutting.{on_face}
 use Rattle.cube.specs.Triangles.{triangles, turn_over, opposite}
 use Rattle.cube.specs.Joined.{Joined}

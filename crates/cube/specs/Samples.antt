@@ -1,11 +1,11 @@
 -- Worked cases of the rules of the cube. Assumes nothing.
-use Rattle.std.specs.Prelude.{◌≡◌, List, [], ◌∷◌}
+use Rattle.std.specs.Prelude.{◌≡◌, [], ◌∷◌}
 use Rattle.cube.specs.Lists.{In}
 use Rattle.cube.specs.Cube.{Face, faces, Walked, kinds}
 use Rattle.cube.specs.Cutting.{triangle}
 use Rattle.cube.specs.Triangles.{triangles}
 use Rattle.cube.specs.declared.pair.Pair.{Pair}
-use Rattle.cube.specs.declared.pair.Pair.TheVariants.{S18H6, S26H6, S6H18, S6H26}
+use Rattle.cube.specs.declared.pair.Pair.TheVariants.{S18H6, S26H6, S6H18}
 
 pub record Samples : Type 0 where
   -- A cube of one kind lays nothing, under any pair.

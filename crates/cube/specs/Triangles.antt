@@ -6,7 +6,7 @@ use Rattle.cube.specs.Graph.{graph}
 use Rattle.cube.specs.Loops.{loops, loops_of}
 use Rattle.cube.specs.Cutting.{body, cut_loop, from_low, triangle}
 use Rattle.cube.specs.declared.pair.Connectedness.{Connectedness}
-use Rattle.cube.specs.declared.pair.Connectedness.TheVariants.{Six, Eighteen, TwentySix}
+use Rattle.cube.specs.declared.pair.Connectedness.TheVariants.{Eighteen, TwentySix}
 use Rattle.cube.specs.declared.pair.Pair.{Pair}
 use Rattle.cube.specs.declared.pair.Pair.TheVariants.{S18H6, S26H6, S6H18, S6H26}
 use Rattle.cube.specs.declared.triangle.CubeTriangle.{CubeTriangle}

@@ -3,7 +3,6 @@ use Rattle.std.proofs.Common.{◌≡◌, ℕ, List, map, sym, refl, ap, ◌∙�
 use Rattle.grid.specs.Cubes.{Low}
 use Rattle.grid.specs.declared.sides.Sides.{Sides}
 use Rattle.grid.specs.declared.voxel.Voxel.{Voxel}
-use Rattle.cube.specs.Lists.{In}
 use Rattle.cube.specs.Cube.{Kinds}
 use Rattle.cube.specs.Triangles.{triangles}
 use Rattle.cube.specs.declared.pair.Pair.{Pair}

@@ -1,5 +1,5 @@
 -- Cubes drawn in a row: none yet, one more, and the most that may be. Assumes nothing.
-use Rattle.std.proofs.Common.{◌≡◌, ℕ, zero, suc, ◌+◌, ◌-◌, ◌*◌, ◌<◌, ◌≤◌, min, true, eqb, ◌⊎◌, List, [], ◌++◌, map, length, is_ok, Some, None, Ok, Err, Option, sym, refl, ap, ◌∙◌, subst, ap₂, ⊎_elim, append_assoc, append-nil, eq-or-lt_of_le, add-one, arith, length-append, MatchOption}
+use Rattle.std.proofs.Common.{◌≡◌, ℕ, zero, suc, ◌+◌, ◌-◌, ◌<◌, ◌≤◌, min, eqb, ◌⊎◌, [], ◌++◌, map, length, is_ok, Some, None, Ok, Option, sym, refl, ap, ◌∙◌, subst, ap₂, ⊎_elim, append_assoc, append-nil, eq-or-lt_of_le, arith, length-append, MatchOption}
 use mathlib.Core.List.{map-append}
 use lib.ListN.{length-map}
 use Rattle.std.proofs.lemmas.Bool.{false≢true, cases_lt, cond_both, eqb-true, eqb-false}
@@ -10,9 +10,8 @@ use Rattle.grid.proofs.Numbering.{count_bound}
 use Rattle.scan.specs.Meaning.{Meaning}
 use Rattle.scan.specs.declared.fault.Fault.{Fault}
 use Rattle.tray.specs.Holding.{Held, Lawful}
-use Rattle.tray.proofs.Trays.{Laid, laid_none}
-use Rattle.surface.specs.Places.{low_of, voxel_at}
-use Rattle.surface.specs.Laid.{laid_at}
+use Rattle.tray.proofs.Trays.{laid_none}
+use Rattle.surface.specs.Places.{low_of}
 use Rattle.surface.proofs.Rule.{laid_next}
 use Rattle.drawing.specs.Draws.{Allowed, Greatest, Ends, Drawn}
 use Rattle.drawing.specs.Laying.{corners, surface, cube_lays, Readable, FirstFault, Halts, CubeLaid}

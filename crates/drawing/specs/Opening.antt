@@ -9,7 +9,6 @@ use Rattle.scan.specs.Meaning.{Meaning}
 use Rattle.drawing.specs.Borders.{BorderOf, LowestUnlike}
 use Rattle.drawing.specs.Solids.{solids_of}
 use Rattle.drawing.specs.declared.drawing.Drawing.{Drawing}
-use Rattle.drawing.specs.declared.letter.Letter.{Letter}
 use Rattle.drawing.specs.declared.letter.SolidTest.{SolidTest}
 use Rattle.drawing.specs.declared.refusal.OpenRefusal.{OpenRefusal}
 use Rattle.drawing.specs.declared.refusal.OpenRefusal.TheVariants.{ThinSide, ZeroThreshold, NoPair, Lacking, Mixed}

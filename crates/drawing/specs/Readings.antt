@@ -5,7 +5,6 @@ use Rattle.cube.specs.Cube.{kinds}
 use Rattle.cube.specs.declared.mask.Mask.{Mask}
 use Rattle.scan.specs.Meaning.{Meaning}
 use Rattle.scan.specs.declared.border.Lacking.{Lacking}
-use Rattle.scan.specs.declared.fault.Fault.{Fault}
 use Rattle.surface.specs.Places.{voxel_at, kinds_at}
 use Rattle.drawing.specs.Solids.{solids_of}
 use Rattle.drawing.specs.declared.letter.SolidTest.{SolidTest}

@@ -1,6 +1,6 @@
 -- Tables of walks that lead as the graph does, at one link. Assumes nothing.
 use Rattle.std.proofs.Common.{◌≡◌, ℕ, ◌<◌, T, eqb, ltb, List, eqb→eq, ltb→lt}
-use Rattle.cube.specs.Lists.{every, some, In, both}
+use Rattle.cube.specs.Lists.{some, In, both}
 use Rattle.cube.specs.Cube.{Kinds, link_numbers}
 use Rattle.cube.specs.Graph.{graph}
 use Rattle.cube.specs.Loops.{next}

@@ -1,10 +1,10 @@
 -- The loops of every cube have three to seven corners and share none. Assumes nothing.
 use Rattle.std.proofs.Common.{ℕ, Bool, T, eqb, leb, List, length, leb→le}
 use lib.Dec.{eqb_refl}
-use Rattle.cube.specs.Lists.{gather, every, In, both}
+use Rattle.cube.specs.Lists.{gather, every, both}
 use Rattle.cube.specs.Cube.{Kinds}
 use Rattle.cube.specs.Loops.{loops}
-use Rattle.cube.specs.Laws.{Sized, Looped}
+use Rattle.cube.specs.Laws.{Looped}
 use Rattle.cube.specs.declared.pair.Connectedness.{Connectedness}
 use Rattle.cube.specs.declared.pair.Connectedness.TheVariants.{Six, Eighteen, TwentySix}
 use Rattle.cube.proofs.Listed.{every_at, distinct, distinct_is, both_left, both_right}

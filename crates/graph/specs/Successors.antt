@@ -1,5 +1,5 @@
 -- The edge that leaves a corner, found on the one face where the corner is a start. Assumes nothing.
-use Rattle.std.specs.Prelude.{ℕ, Bool, true, false, T, List, [], ◌∷◌, get_or, ◌==◌, nat_lt, slice_index_or}
+use Rattle.std.specs.Prelude.{ℕ, Bool, true, false, T, List, get_or, ◌==◌, nat_lt, slice_index_or}
 use Rattle.cube.specs.Lists.{every, both}
 use Rattle.cube.specs.Cube.{Kinds, solid, link_numbers}
 use Rattle.cube.specs.Graph.{graph}

@@ -1,5 +1,5 @@
 -- Calls made one after the other. Assumes nothing.
-use Rattle.std.proofs.Common.{◌≡◌, ℕ, ◌+◌, ◌<◌, List, [], ◌∷◌, ◌++◌, map, length, get_or, take, set, sym, refl, ap, ◌∙◌, subst}
+use Rattle.std.proofs.Common.{◌≡◌, ℕ, ◌+◌, ◌<◌, List, [], ◌∷◌, ◌++◌, length, get_or, take, set, sym, refl, ap, ◌∙◌, subst}
 use Rattle.std.proofs.lemmas.List.{get_or-map, map-set, set-get_or, take_more_set}
 use Rattle.scan.specs.Meaning.{Meaning}
 use Rattle.session.specs.Worlds.{World}

@@ -1,15 +1,14 @@
 -- What a list of calls has laid is the surface of the drawn cubes. Assumes nothing.
-use Rattle.std.proofs.Common.{◌≡◌, ℕ, ◌+◌, ◌<◌, List, [], ◌∷◌, ◌++◌, map, length, Ok, Err, Result, sym, refl, ap, ◌∙◌, subst, ap₂, ⊎_elim, append-nil, arith, length-append}
+use Rattle.std.proofs.Common.{◌≡◌, ℕ, ◌<◌, List, [], ◌∷◌, ◌++◌, map, length, Ok, Err, Result, sym, refl, ap, ◌∙◌, subst, ap₂, ⊎_elim, append-nil, arith, length-append}
 use mathlib.Core.List.{map-append, append_cancel_left}
 use Rattle.std.proofs.lemmas.Bool.{cases_lt}
 use Rattle.grid.specs.Cubes.{cube_count}
-use Rattle.grid.specs.declared.voxel.Voxel.{Voxel}
 use Rattle.grid.specs.declared.sides.Sides.{Sides}
 use Rattle.cube.specs.Lists.{In}
 use Rattle.scan.specs.Meaning.{Meaning}
 use Rattle.tray.specs.Holding.{Held}
 use Rattle.tray.specs.declared.triangle.Triangle.{Triangle}
-use Rattle.surface.specs.Places.{low_of, Solids}
+use Rattle.surface.specs.Places.{low_of}
 use Rattle.surface.specs.Laid.{laid, edges, back}
 use Rattle.surface.specs.Fronts.{OneBorder}
 use Rattle.surface.proofs.Together.{all_whole}
@@ -35,7 +34,7 @@ use Rattle.session.specs.declared.call.Call.{Call}
 use Rattle.session.specs.declared.call.Call.TheVariants.{Open, Draw, DrawOther, Close, Empty}
 use Rattle.session.specs.declared.call.Entry.{Entry}
 use Rattle.session.specs.declared.state.State.{State}
-use Rattle.session.specs.declared.state.State.TheVariants.{Unopened, Opened, Finished}
+use Rattle.session.specs.declared.state.State.TheVariants.{Unopened, Opened}
 
 module _ (m : Meaning) where
   -- What an opening accepts has a border of one kind, and nothing is laid for it.

@@ -9,7 +9,6 @@ use Rattle.drawing.specs.Closings.{Closes, report_of}
 use Rattle.drawing.specs.declared.closed.Closed.{Closed}
 use Rattle.drawing.specs.declared.closed.CubesLeft.{CubesLeft}
 use Rattle.drawing.specs.declared.drawing.Drawing.{Drawing}
-use Rattle.drawing.specs.declared.letter.Letter.{Letter}
 use Rattle.drawing.specs.declared.progress.DrawRefusal.{DrawRefusal}
 use Rattle.drawing.specs.declared.progress.Progress.{Progress}
 use Rattle.drawing.specs.declared.refusal.OpenRefusal.{OpenRefusal}

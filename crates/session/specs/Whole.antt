@@ -3,7 +3,7 @@ use Rattle.std.specs.Prelude.{List}
 use Rattle.scan.specs.Meaning.{Meaning}
 use Rattle.tray.specs.Holding.{Held}
 use Rattle.tray.specs.declared.triangle.Triangle.{Triangle}
-use Rattle.session.specs.Worlds.{World, start}
+use Rattle.session.specs.Worlds.{start}
 use Rattle.session.specs.Calls.{Runs}
 use Rattle.session.specs.Surfaces.{Surfaced}
 use Rattle.session.specs.Ways.{Repeats}

@@ -1,5 +1,5 @@
 -- What a list of calls works on: a drawing or none yet, the trays, and what was laid. Assumes nothing.
-use Rattle.std.specs.Prelude.{◌≡◌, ℕ, List, [], slice_index_or, slice_set}
+use Rattle.std.specs.Prelude.{ℕ, List, [], slice_index_or, slice_set}
 use Rattle.tray.specs.Holding.{Held}
 use Rattle.tray.specs.declared.triangle.Triangle.{Triangle}
 use Rattle.session.specs.declared.state.State.{State}

@@ -1,5 +1,5 @@
 -- A cut-out lies inside the scan below. Assumes nothing.
-use Rattle.std.specs.Prelude.{ℕ, ◌+◌, ◌-◌, ◌<◌, ◌≤◌}
+use Rattle.std.specs.Prelude.{ℕ, ◌+◌, ◌<◌, ◌≤◌}
 use Rattle.std.proofs.Common.{arith}
 use Rattle.grid.specs.Voxels.{Holds}
 use Rattle.grid.specs.declared.sides.Sides.{Sides}

@@ -1,4 +1,4 @@
-use Rattle.std.proofs.Common.{take, sym, ap, ◌∙◌, rules}
+use Rattle.std.proofs.Common.{take, ap, ◌∙◌, rules}
 use Rattle.cube.specs.Cube.{kinds}
 use Rattle.cube.proofs.Tubed.{tube_of, no_tube}
 use Rattle.cube.proofs.tube.with_tube.Goals as goal

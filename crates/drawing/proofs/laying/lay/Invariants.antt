@@ -1,4 +1,4 @@
-use Rattle.std.proofs.Common.{◌≡◌, ◌+◌, ◌≤◌, map, length, take}
+use Rattle.std.proofs.Common.{map, take}
 use Rattle.surface.specs.Laid.{numbered}
 use Rattle.drawing.specs.Laying.{LaidIn}
 use Rattle.drawing.proofs.laying.lay.Given as goal

@@ -1,4 +1,4 @@
-use Rattle.std.proofs.Common.{◌≡◌, sym, ap, ◌∙◌}
+use Rattle.std.proofs.Common.{sym, ap, ◌∙◌}
 use Rattle.surface.specs.Places.{low_of}
 use Rattle.surface.proofs.Numbered.{low_back}
 use Rattle.drawing.proofs.laying.low_voxel.Goals as goal

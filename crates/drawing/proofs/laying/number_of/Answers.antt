@@ -1,6 +1,5 @@
 use Rattle.std.proofs.Common.{sym, ap, ◌∙◌, subst}
 use Rattle.grid.specs.Links.{Links, link_number_of}
-use Rattle.surface.specs.Places.{link_at}
 use Rattle.surface.proofs.Numbered.{links_at}
 use Rattle.drawing.proofs.Links.{cube_link}
 use Rattle.drawing.proofs.laying.number_of.Goals as goal

@@ -1,4 +1,4 @@
-use Rattle.std.proofs.Common.{◌≡◌, ℕ, ◌<◌, false, ◌≢◌, length, get_or, is_ok, Ok, sym, ap, ◌∙◌, arith, length-set, get_or-set_other, get_or-set_same, below_more}
+use Rattle.std.proofs.Common.{◌≡◌, ℕ, ◌<◌, ◌≢◌, length, is_ok, Ok, sym, ap, ◌∙◌, arith, length-set, get_or-set_other, get_or-set_same, below_more}
 use Rattle.surface.specs.Places.{voxel_at}
 use Rattle.drawing.specs.Solids.{solid_answer, solids_of}
 use Rattle.drawing.proofs.reading.mask_at.Goals as goal

@@ -1,6 +1,6 @@
-use Rattle.std.proofs.Common.{◌≡◌, Bool, true, false, T, ltb, get_or, MatchBool, sym, ap, subst, arith, ltb→lt}
+use Rattle.std.proofs.Common.{◌≡◌, Bool, true, false, T, ltb, get_or, MatchBool, sym, subst, arith, ltb→lt}
 use Rattle.cube.specs.Cube.{kinds}
-use Rattle.cube.specs.Joined.{Joined, reached}
+use Rattle.cube.specs.Joined.{reached}
 use Rattle.cube.proofs.Voxels.{voxel_below}
 use Rattle.graph.proofs.Closed.{joined_reached, ends}
 use Rattle.cube.proofs.Reached.{reached_joined}

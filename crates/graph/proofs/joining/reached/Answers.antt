@@ -1,6 +1,6 @@
 use Rattle.std.proofs.Common.{◌≡◌, suc, ◌+◌, ◌-◌, sym, ap, ◌∙◌, arith}
 use Rattle.cube.specs.Cube.{kinds}
-use Rattle.cube.specs.Joined.{spread, spread_times}
+use Rattle.cube.specs.Joined.{spread_times}
 use Rattle.graph.proofs.joining.reached.Goals as goal
 
 pub loop-step-init : goal.loop-step-init

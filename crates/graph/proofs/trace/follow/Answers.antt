@@ -1,4 +1,4 @@
-use Rattle.std.proofs.Common.{◌≡◌, ℕ, ◌<◌, sym, ◌∙◌, subst}
+use Rattle.std.proofs.Common.{ℕ, ◌<◌, sym, ◌∙◌, subst}
 use Rattle.cube.specs.Cube.{kinds}
 use Rattle.graph.proofs.Led.{leads_at}
 use Rattle.graph.proofs.trace.follow.Goals as goal

@@ -1,9 +1,9 @@
-use Rattle.std.proofs.Common.{◌≡◌, ℕ, ◌+◌, ◌<◌, Bool, true, false, leb, List, [], ◌∷◌, ◌++◌, map, vec_items, sym, refl, ap, ◌∙◌, subst}
+use Rattle.std.proofs.Common.{◌≡◌, ◌+◌, leb, ◌∷◌, ◌++◌, map, vec_items, sym, refl, ap, ◌∙◌, subst}
 use Rattle.cube.specs.Lists.{every}
 use Rattle.cube.specs.Cube.{kinds}
 use Rattle.cube.specs.Graph.{graph}
 use Rattle.cube.specs.Laws.{Looped}
-use Rattle.cube.specs.Loops.{loop_from, loops_of}
+use Rattle.cube.specs.Loops.{loop_from}
 use Rattle.graph.proofs.Found.{loops_past, past_level, past_higher, past_lowest, past_all, push_read, read_on}
 use Rattle.graph.proofs.Looped.{looped}
 use Rattle.graph.proofs.trace.loops.Goals as goal

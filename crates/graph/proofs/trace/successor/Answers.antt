@@ -1,4 +1,3 @@
-use Rattle.std.proofs.Common.{rules}
 use Rattle.graph.proofs.trace.successor.Goals as goal
 
 pub follow-requires : goal.follow-requires

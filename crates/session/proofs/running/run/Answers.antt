@@ -1,4 +1,4 @@
-use Rattle.std.proofs.Common.{◌≡◌, ◌<◌, List, [], ◌++◌, map, length, take, sym, refl, ◌∙◌, subst, arith, take_all}
+use Rattle.std.proofs.Common.{◌≡◌, ◌<◌, List, [], ◌++◌, map, length, take, refl, ◌∙◌, subst, arith, take_all}
 use Rattle.session.specs.Worlds.{start}
 use Rattle.session.specs.Calls.{Runs}
 use Rattle.session.specs.Steps.{world}

@@ -1,4 +1,4 @@
-use Rattle.std.proofs.Common.{◌≡◌, refl, ◌∙◌, arith, rules}
+use Rattle.std.proofs.Common.{◌≡◌, refl, ◌∙◌, rules}
 use Rattle.grid.proofs.Same.{sides_same}
 use Rattle.drawing.proofs.drawing.Drawing.draw.Goals as goal
 
