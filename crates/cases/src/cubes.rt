@@ -35,10 +35,10 @@ fn tube(rt: HostRuntime) {
 
 #[test]
 fn pairs_of_numbers(rt: HostRuntime) {
-    assert!(rt; Pair::new(18, 6).is_some());
-    assert!(rt; Pair::new(6, 26).is_some());
+    assert_eq!(rt; Pair::try_from((18, 6)), Ok(Pair::S18H6));
+    assert_eq!(rt; Pair::try_from((6, 26)), Ok(Pair::S6H26));
     for (s, h) in [(6u16, 6u16), (18, 18), (26, 18), (6, 0), (65_535, 6)] {
-        assert!(rt; Pair::new(s, h).is_none());
+        assert!(rt; Pair::try_from((s, h)).is_err());
     }
 }
 

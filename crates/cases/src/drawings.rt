@@ -1,5 +1,7 @@
 // Lists of calls on small blocks.
-use drawing::{DrawRefusal, Ending, Letter, OpenRefusal, Progress, Report};
+use drawing::{
+    Asked, DrawRefusal, Ending, Letter, OpenRefusal, Progress, Report, SolidTest, Unfinished,
+};
 use grid::Voxel;
 use scan::{Block, Cause, Fault, Lengths};
 use session::{Answer, Call, Entry, run};
@@ -10,28 +12,21 @@ use tray::RecordTray;
 // A block of spacing 1.
 fn block(heap: Global, x: u32, y: u32, z: u32, values: &[u16]) -> Result<Block, Fail> {
     let spacing = Lengths { x: 1, y: 1, z: 1 };
-    match Block::new(Lengths { x, y, z }, spacing, values.to_vec(heap)?) {
-        Ok(block) => Ok(block),
-        Err(_) => Err(Fail::new("no block was made")),
-    }
+    Ok(Block::new(Lengths { x, y, z }, spacing, values.to_vec(heap)?)?)
 }
 
 // A call that is not made yet.
 fn entry(call: Call) -> Entry {
-    Entry {
-        call,
-        answer: Answer::NotMade,
-    }
+    Entry { call, answer: None }
 }
 
 // An opening under H and (18,6).
 fn open(threshold: u16) -> Entry {
-    entry(Call::Open {
+    let test = SolidTest {
         threshold,
         letter: Letter::H,
-        s: 18,
-        h: 6,
-    })
+    };
+    entry(Call::Open(Asked { test, s: 18, h: 6 }))
 }
 
 // A draw into a tray.
@@ -40,17 +35,17 @@ fn draw(tray: usize, budget: u32) -> Entry {
 }
 
 // What a draw answers.
-fn drawn(drawn: u32, laid: u32, left: u32, ending: Ending) -> Answer {
-    Answer::Drawn(Progress {
+fn drawn(drawn: u32, laid: u32, left: u32, ending: Ending) -> Option<Answer> {
+    Some(Answer::Drawn(Ok(Progress {
         drawn,
         laid,
         left,
         ending,
-    })
+    })))
 }
 
 // What opening a block of 2 x 2 x 2 values answers.
-fn opened(heap: Global, values: &[u16], threshold: u16) -> Result<Answer, Fail> {
+fn opened(heap: Global, values: &[u16], threshold: u16) -> Result<Option<Answer>, Fail> {
     let block = block(heap, 2, 2, 2, values)?;
     let mut entries = [open(threshold)];
     let others: [Block; 0] = [];
@@ -64,9 +59,9 @@ fn refused_openings(rt: HostRuntime) -> Result<(), Fail> {
     let heap = rt.alloc();
     let one = [9, 0, 0, 0, 0, 0, 0, 0];
     let voxel = Voxel { x: 1, y: 0, z: 0 };
-    let mixed = Answer::OpenRefused(OpenRefusal::Mixed { voxel });
+    let mixed = Some(Answer::Opened(Err(OpenRefusal::Mixed { voxel })));
     assert_eq!(rt; opened(heap, &one, 5)?, mixed);
-    let zero = Answer::OpenRefused(OpenRefusal::ZeroThreshold);
+    let zero = Some(Answer::Opened(Err(OpenRefusal::ZeroThreshold)));
     assert_eq!(rt; opened(heap, &one, 0)?, zero);
     let voxel = Voxel { x: 1, y: 1, z: 1 };
     let fault = Fault {
@@ -74,9 +69,9 @@ fn refused_openings(rt: HostRuntime) -> Result<(), Fail> {
         at: voxel,
         passed: 0,
     };
-    let lacking = Answer::OpenRefused(OpenRefusal::Lacking { voxel, fault });
+    let lacking = Some(Answer::Opened(Err(OpenRefusal::Lacking { voxel, fault })));
     assert_eq!(rt; opened(heap, &[9, 0, 0, 0, 0, 0, 0, 65_535], 5)?, lacking);
-    assert_eq!(rt; opened(heap, &[9; 8], 5)?, Answer::Opened);
+    assert_eq!(rt; opened(heap, &[9; 8], 5)?, Some(Answer::Opened(Ok(()))));
     Ok(())
 }
 
@@ -106,7 +101,7 @@ fn two_triangles_want_two_places(rt: HostRuntime) -> Result<(), Fail> {
     };
     assert_eq!(rt; entries[2].answer, drawn(0, 0, 2, full));
     assert_eq!(rt; entries[3].answer, drawn(1, 2, 1, Ending::Budget));
-    let zero = Answer::DrawRefused(DrawRefusal::ZeroBudget);
+    let zero = Some(Answer::Drawn(Err(DrawRefusal::ZeroBudget)));
     assert_eq!(rt; entries[4].answer, zero);
     Ok(())
 }
@@ -131,7 +126,7 @@ fn earlier_cubes_stand_at_a_fault(rt: HostRuntime) -> Result<(), Fail> {
         entries[1].answer,
         drawn(1, 1, 11, Ending::Lacking { cube, fault })
     );
-    assert_eq!(rt; entries[2].answer, Answer::CloseRefused);
+    assert_eq!(rt; entries[2].answer, Some(Answer::Closed(Err(Unfinished))));
     Ok(())
 }
 
@@ -158,9 +153,9 @@ fn closed_drawing_only_reports(rt: HostRuntime) -> Result<(), Fail> {
         cubes: 8,
         triangles: 8,
     };
-    assert_eq!(rt; entries[2].answer, Answer::Closed(report));
-    assert_eq!(rt; entries[3].answer, Answer::NotMade);
-    assert_eq!(rt; entries[4].answer, Answer::NotMade);
-    assert_eq!(rt; entries[5].answer, Answer::Emptied);
+    assert_eq!(rt; entries[2].answer, Some(Answer::Closed(Ok(report))));
+    assert_eq!(rt; entries[3].answer, None);
+    assert_eq!(rt; entries[4].answer, None);
+    assert_eq!(rt; entries[5].answer, Some(Answer::Emptied));
     Ok(())
 }

@@ -1,10 +1,12 @@
 -- The bits of a mask and the kinds that they tell. Assumes nothing.
-use Rattle.std.proofs.Common.{◌≡◌, ℕ, zero, suc, ◌+◌, ◌-◌, ◌*◌, ◌<◌, Bool, true, false, not, T, refl, arith}
+use Rattle.std.proofs.Common.{◌≡◌, ℕ, zero, suc, ◌-◌, ◌*◌, ◌%◌, ◌<◌, Bool, true, false, not, T, List, [], ◌∷◌, length, reverse, bit_or, refl, sym, ap, ◌∙◌, arith}
+use Rattle.std.specs.List.{fold}
 use mir.Val.{bool_byte}
 use Rattle.cube.specs.Lists.{every}
-use Rattle.cube.specs.Cube.{Kinds, solid, exchange, bit, kinds, voxels}
+use Rattle.cube.specs.Cube.{Kinds, solid, exchange, bit, kinds, kinds_in, voxels}
 use Rattle.cube.proofs.Listed.{every_at}
 use Rattle.cube.proofs.Everywhere.{everywhere}
+use Rattle.cube.proofs.Eight.{eight}
 use Rattle.cube.proofs.Masks.{at}
 use Rattle.cube.proofs.Voxels.{solid_voxel}
 
@@ -45,14 +47,18 @@ pub kinds_exchanged : (m : ℕ) → m < 256 → kinds (255 - m) ≡ exchange (ki
 kinds_exchanged m h =
     alike_are (kinds (255 - m)) (exchange (kinds m)) (at (λ n. every (alike (kinds (255 - n)) (exchange (kinds n))) voxels) 256 tt m h)
 
--- The mask of eight kinds, as a number.
-abbrev pub mask_of : Kinds → ℕ
-mask_of k =
-    bool_byte k.v0 + 2 * bool_byte k.v1 + 4 * bool_byte k.v2 + 8 * bool_byte k.v3 +
-    16 * (bool_byte k.v4 + 2 * bool_byte k.v5 + 4 * bool_byte k.v6 + 8 * bool_byte k.v7)
+-- The mask of eight kinds, made from the last on.
+abbrev pub mask_of : List Bool → ℕ
+mask_of ks = fold (λ n b. bit_or (n * 2 % 256) (bool_byte b)) 0 (reverse ks)
 
-pub kinds_mask_of : (k : Kinds) → kinds (mask_of k) ≡ k
-kinds_mask_of k = alike_are (kinds (mask_of k)) k (everywhere (λ j. every (alike (kinds (mask_of j)) j) voxels) tt k)
+abbrev listed : Kinds → List Bool
+listed k = k.v0 ∷ k.v1 ∷ k.v2 ∷ k.v3 ∷ k.v4 ∷ k.v5 ∷ k.v6 ∷ k.v7 ∷ []
+
+kinds_listed : (k : Kinds) → kinds (mask_of (listed k)) ≡ k
+kinds_listed k = alike_are (kinds (mask_of (listed k))) k (everywhere (λ j. every (alike (kinds (mask_of (listed j))) j) voxels) tt k)
+
+pub kinds_mask_of : (ks : List Bool) → length ks ≡ 8 → kinds (mask_of ks) ≡ kinds_in ks
+kinds_mask_of ks h = ap (λ xs. kinds (mask_of xs)) (sym (eight false ks h)) ∙ kinds_listed (kinds_in ks)
 
 pub solid_bit : (m i : ℕ) → i < 8 → bit m i ≡ solid (kinds m) i
 solid_bit m zero h = refl

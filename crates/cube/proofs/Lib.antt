@@ -7,6 +7,7 @@ pub mod Sound
 pub mod Computed
 pub mod Lawful
 pub mod Bits
-pub mod Six
+pub mod Eight
 pub mod Tubed
 pub mod Worked
+pub mod LinkNumbers

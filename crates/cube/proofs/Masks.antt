@@ -1,10 +1,11 @@
 -- What holds at every mask, from one test that is computed at each of the 256. Assumes nothing.
-use Rattle.std.proofs.Common.{◌≡◌, ℕ, zero, suc, ◌+◌, ◌/◌, ◌%◌, ◌<◌, ◌≤◌, Bool, T, eqb, leb, List, [], ◌∷◌, get_or, take, sym, refl, ◌∙◌, subst, ap₂, le_of_suc-le-suc, not-suc-le-zero, add-zero, add-suc, suc-add, zero-add, eqb→eq, leb→le}
+use Rattle.std.proofs.Common.{◌≡◌, ℕ, zero, suc, ◌+◌, ◌<◌, ◌≤◌, Bool, T, eqb, leb, List, [], ◌∷◌, get_or, sym, refl, ◌∙◌, subst, ap₂, le_of_suc-le-suc, not-suc-le-zero, add-zero, add-suc, suc-add, zero-add, eqb→eq, leb→le}
 use Rattle.cube.specs.Lists.{both}
-use Rattle.cube.specs.Rows.{same_triangle, same_triangles, passes, row_ruled, Ruled}
+use Rattle.cube.specs.Rows.{same_triangle, same_triangles, passes, empty_row, triangles_in, row_ruled, Ruled}
 use Rattle.cube.specs.Cube.{kinds}
 use Rattle.cube.specs.Triangles.{cut_all}
 use Rattle.cube.specs.declared.pair.Connectedness.TheVariants.{Eighteen}
+use Rattle.cube.specs.declared.rows.Row.{Row}
 use Rattle.cube.specs.declared.triangle.CubeTriangle.{CubeTriangle}
 use Rattle.cube.proofs.Listed.{both_left, both_right}
 
@@ -37,13 +38,12 @@ same_lists (s ∷ ss) (t ∷ ts) h =
     (same_lists ss ts (both_right (same_triangle s t) (same_triangles ss ts) h))
 
 -- A ruled table has the rules' triangles at every mask, and at most five of them.
-module _ (table : List (List CubeTriangle)) (counts : List (List ℕ)) (ruled : Ruled table counts) (m : ℕ) (h : m < 256) where
-  pub ruled_count : get_or (get_or counts (m / 16) []) (m % 16) 0 ≤ 5
-  ruled_count =
-      let n = get_or (get_or counts (m / 16) []) (m % 16) 0 in
-      leb→le n 5 (both_left (leb n 5) (same_triangles (take n (get_or table m [])) (cut_all Eighteen (kinds m))) (at (row_ruled table counts) 256 ruled m h))
+module _ (table : List Row) (ruled : Ruled table) (m : ℕ) (h : m < 256) where
+  abbrev row : Row
+  row = get_or table m empty_row
 
-  pub ruled_row : take (get_or (get_or counts (m / 16) []) (m % 16) 0) (get_or table m []) ≡ cut_all Eighteen (kinds m)
-  ruled_row =
-      let n = get_or (get_or counts (m / 16) []) (m % 16) 0 in
-      same_lists (take n (get_or table m [])) (cut_all Eighteen (kinds m)) (both_right (leb n 5) (same_triangles (take n (get_or table m [])) (cut_all Eighteen (kinds m))) (at (row_ruled table counts) 256 ruled m h))
+  pub ruled_count : (get_or table m empty_row).count ≤ 5
+  ruled_count = leb→le row.count 5 (both_left (leb row.count 5) (same_triangles (triangles_in row) (cut_all Eighteen (kinds m))) (at (row_ruled table) 256 ruled m h))
+
+  pub ruled_row : triangles_in (get_or table m empty_row) ≡ cut_all Eighteen (kinds m)
+  ruled_row = same_lists (triangles_in row) (cut_all Eighteen (kinds m)) (both_right (leb row.count 5) (same_triangles (triangles_in row) (cut_all Eighteen (kinds m))) (at (row_ruled table) 256 ruled m h))

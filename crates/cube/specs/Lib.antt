@@ -12,3 +12,4 @@ pub mod Laws
 pub mod Tubes
 pub mod Samples
 pub mod Everywhere
+pub mod Texts

@@ -2,10 +2,7 @@
 ghost use Rattle.std.specs.Prelude.{◌≡◌, ◌<◌, ◌≤◌, false};
 ghost use Rattle.cube.specs.Cube.{kinds, kinds_in, exchange, solid, crossing};
 
-// The lower and the upper voxel of each cube link.
-const LOWER: [u8; 12] = [0, 2, 4, 6, 0, 1, 4, 5, 0, 1, 2, 3];
-
-const UPPER: [u8; 12] = [1, 3, 5, 7, 2, 3, 6, 7, 4, 5, 6, 7];
+use crate::links::ends;
 
 // Bit i is set where voxel i is solid; voxel dx + 2 dy + 4 dz lies dx, dy, dz from the cube's low voxel.
 #[derive(Clone, Copy, PartialEq, Eq, Debug)]
@@ -16,10 +13,11 @@ impl Mask {
     pub fn of(voxels: [bool; 8]) -> Mask
         ensures { kinds result.0 ≡ kinds_in voxels }
     {
-        let [a, b, c, d, e, f, g, h] = voxels;
-        let low = a as u8 + 2 * (b as u8) + 4 * (c as u8) + 8 * (d as u8);
-        let high = e as u8 + 2 * (f as u8) + 4 * (g as u8) + 8 * (h as u8);
-        Mask(low + 16 * high)
+        let bits = voxels
+            .iter()
+            .rev()
+            .fold(0, |bits, solid| bits << 1 | u8::from(*solid));
+        Mask(bits)
     }
 
     // Whether a voxel is solid; false past the eighth.
@@ -40,9 +38,6 @@ impl Mask {
     pub fn carries_corner(self, link: u8) -> bool
         ensures { (link < 12 → result ≡ crossing (kinds self.0) link) × (12 ≤ link → result ≡ false) }
     {
-        if link >= 12 {
-            return false;
-        }
-        self.is_solid(LOWER[link as usize]) != self.is_solid(UPPER[link as usize])
+        ends(link).is_some_and(|(lower, upper)| self.is_solid(lower) != self.is_solid(upper))
     }
 }

@@ -1,6 +1,6 @@
 // The four pairs of connectedness, of solid and of hollow, under which a surface is closed.
-ghost use Rattle.std.specs.Prelude.{◌≡◌, MatchOption, ◌≢◌};
-ghost use Rattle.cube.specs.Pairs.{number, numbers, of_solid, of_hollow, swap};
+ghost use Rattle.std.specs.Prelude.{◌≡◌};
+ghost use Rattle.cube.specs.Pairs.{of_solid, of_hollow, swap};
 
 // How far apart two voxels may be and still touch: they differ in one coordinate, in one or two, or in one to three.
 #[derive(Clone, Copy, PartialEq, Eq, Debug)]
@@ -8,19 +8,6 @@ pub enum Connectedness {
     Six,
     Eighteen,
     TwentySix,
-}
-
-impl Connectedness {
-    // 6, 18 or 26.
-    pub fn number(self) -> u16
-        ensures { result ≡ number self }
-    {
-        match self {
-            Connectedness::Six => 6,
-            Connectedness::Eighteen => 18,
-            Connectedness::TwentySix => 26,
-        }
-    }
 }
 
 // The connectedness of solid, then that of hollow.
@@ -33,19 +20,6 @@ pub enum Pair {
 }
 
 impl Pair {
-    // The pair of two numbers, that of solid first; none where they are not those of one of the four.
-    pub fn new(s: u16, h: u16) -> Option<Pair>
-        ensures { MatchOption result ((p : Pair) → numbers p ≢ (s, h)) (λ p. numbers p ≡ (s, h)) }
-    {
-        match (s, h) {
-            (18, 6) => Some(Pair::S18H6),
-            (26, 6) => Some(Pair::S26H6),
-            (6, 18) => Some(Pair::S6H18),
-            (6, 26) => Some(Pair::S6H26),
-            _ => None,
-        }
-    }
-
     // The connectedness of solid.
     pub fn solid(self) -> Connectedness
         ensures { result ≡ of_solid self }

@@ -4,6 +4,7 @@ ghost use Rattle.std.specs.Prelude.{◌≤◌};
 use crate::triangle::CubeTriangle;
 
 // At most six triangles, in the order in which they are laid; what stands behind the last of them says nothing.
+// With a count beside the places: with an ArrayVec in their stead the patches of all masks took three times as long.
 #[derive(Clone, Copy)]
 pub struct Patch {
     pub(crate) count: u8,

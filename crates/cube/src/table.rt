@@ -8,18 +8,24 @@ ghost use Rattle.cube.specs.Triangles.{cut_all};
 use crate::mask::Mask;
 use crate::pair::Connectedness;
 use crate::patch::Patch;
-use crate::rows;
-use crate::triangle::CubeTriangle;
+use crate::rows::{NONE, ROWS, Row};
 
 // The triangles of a mask in any table that has the rules' triangles at every mask.
-fn pick(table: &[[CubeTriangle; 6]; 256], counts: &[[u8; 16]; 16], mask: Mask) -> Patch
-    requires { Ruled table.now counts.now }
+fn pick(table: &[Row; 256], mask: Mask) -> Patch
+    requires { Ruled table.now }
     ensures { laid result ≡ cut_all Connectedness.Eighteen (kinds mask.0) }
 {
-    let bits = mask.0;
+    let Row {
+        count,
+        first,
+        second,
+        third,
+        fourth,
+        fifth,
+    } = table[mask.0 as usize];
     Patch {
-        count: counts[(bits / 16) as usize][(bits % 16) as usize],
-        places: table[bits as usize],
+        count,
+        places: [first, second, third, fourth, fifth, NONE],
     }
 }
 
@@ -27,5 +33,5 @@ fn pick(table: &[[CubeTriangle; 6]; 256], counts: &[[u8; 16]; 16], mask: Mask) -
 pub fn row_of(mask: Mask) -> Patch
     ensures { laid result ≡ cut_all Connectedness.Eighteen (kinds mask.0) }
 {
-    pick(&rows::ROWS, &rows::COUNTS, mask)
+    pick(&ROWS, mask)
 }

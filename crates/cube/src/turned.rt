@@ -1,5 +1,5 @@
 // What is asked of a patch, and a patch turned over.
-ghost use Rattle.std.specs.Prelude.{◌≡◌, map, length};
+ghost use Rattle.std.specs.Prelude.{◌≡◌, ◌≤◌, map, length};
 ghost use Rattle.cube.specs.Patches.{laid};
 ghost use Rattle.cube.specs.Triangles.{turn_over};
 
@@ -16,28 +16,22 @@ impl CubeTriangle {
 }
 
 impl Patch {
-    // The triangles, in the order in which they are laid.
+    // The triangles, in the order in which they are laid; six at the most.
     pub fn triangles(&self) -> &[CubeTriangle]
-        ensures { result.now ≡ laid self.now }
+        ensures value { result.now ≡ laid self.now }
+        ensures few { length result.now ≤ 6 }
     {
-        &self.places[0..self.count as usize]
+        &self.places[..self.count as usize]
     }
 
     // The patch with each of its triangles turned over, in the same order.
     pub fn turned_over(self) -> Patch
         ensures { laid result ≡ map turn_over (laid self) }
     {
-        let [a, b, c, d, e, f] = self.places;
-        Patch {
-            count: self.count,
-            places: [
-                a.turned_over(),
-                b.turned_over(),
-                c.turned_over(),
-                d.turned_over(),
-                e.turned_over(),
-                f.turned_over(),
-            ],
+        let Patch { count, mut places } = self;
+        for triangle in places.iter_mut() {
+            *triangle = triangle.turned_over();
         }
+        Patch { count, places }
     }
 }

@@ -1,6 +1,9 @@
 // The surface inside one cube, under each of the four pairs.
 use cube::{Connectedness, Mask, Pair};
 
+// The four pairs.
+const PAIRS: [Pair; 4] = [Pair::S18H6, Pair::S26H6, Pair::S6H18, Pair::S6H26];
+
 // Two galleries in one cube, then all cubes.
 pub(crate) fn show(rt: &HostRuntime) -> anyhow::Result<()> {
     println!(rt; "Two galleries that pass across a face: mask 9")?;
@@ -8,7 +11,7 @@ pub(crate) fn show(rt: &HostRuntime) -> anyhow::Result<()> {
     println!(rt; "Two galleries that pass across the cube: mask 129")?;
     show_mask(rt, Mask(129))?;
     println!(rt; "All 256 masks")?;
-    for pair in [Pair::S18H6, Pair::S26H6, Pair::S6H18, Pair::S6H26] {
+    for pair in PAIRS {
         show_totals(rt, pair)?;
     }
     Ok(())
@@ -17,13 +20,11 @@ pub(crate) fn show(rt: &HostRuntime) -> anyhow::Result<()> {
 // The voxels of a mask, and what each pair makes of them.
 fn show_mask(rt: &HostRuntime, mask: Mask) -> anyhow::Result<()> {
     print!(rt; "  solid voxels:")?;
-    for voxel in 0..8u8 {
-        if mask.is_solid(voxel) {
-            print!(rt; " {voxel}")?;
-        }
+    for voxel in (0..8u8).filter(|voxel| mask.is_solid(*voxel)) {
+        print!(rt; " {voxel}")?;
     }
     println!(rt; "")?;
-    for pair in [Pair::S18H6, Pair::S26H6, Pair::S6H18, Pair::S6H26] {
+    for pair in PAIRS {
         show_pair(rt, mask, pair)?;
     }
     Ok(())
@@ -31,9 +32,7 @@ fn show_mask(rt: &HostRuntime, mask: Mask) -> anyhow::Result<()> {
 
 // The loops, the triangles and the joined voxels of a mask under one pair.
 fn show_pair(rt: &HostRuntime, mask: Mask, pair: Pair) -> anyhow::Result<()> {
-    let s = pair.solid().number();
-    let h = pair.hollow().number();
-    println!(rt; "  under ({s},{h})")?;
+    println!(rt; "  under {pair}")?;
     show_loops(rt, mask, pair.solid())?;
     show_triangles(rt, mask, pair)?;
     print!(rt; "    solid joined: ")?;
@@ -47,12 +46,10 @@ fn show_loops(rt: &HostRuntime, mask: Mask, s: Connectedness) -> anyhow::Result<
     print!(rt; "    loops:")?;
     let loops = graph::loops(rt.alloc(), mask, s)?;
     for corners in loops.iter() {
-        print!(rt; " ")?;
-        for (i, corner) in corners.iter().enumerate() {
-            if i > 0 {
-                print!(rt; "-")?;
-            }
-            print!(rt; "{corner}")?;
+        let mut before = " ";
+        for corner in corners.iter() {
+            print!(rt; "{before}{corner}")?;
+            before = "-";
         }
     }
     println!(rt; "")?;
@@ -62,12 +59,8 @@ fn show_loops(rt: &HostRuntime, mask: Mask, s: Connectedness) -> anyhow::Result<
 // The triangles, in the order in which they are laid.
 fn show_triangles(rt: &HostRuntime, mask: Mask, pair: Pair) -> anyhow::Result<()> {
     print!(rt; "    triangles:")?;
-    let patch = cube::triangles(mask, pair);
-    for t in patch.triangles() {
-        let p = t.0;
-        let q = t.1;
-        let r = t.2;
-        print!(rt; " ({p},{q},{r})")?;
+    for triangle in cube::triangles(mask, pair).triangles() {
+        print!(rt; " {triangle}")?;
     }
     println!(rt; "")?;
     Ok(())
@@ -75,35 +68,20 @@ fn show_triangles(rt: &HostRuntime, mask: Mask, pair: Pair) -> anyhow::Result<()
 
 // The solid voxels of a mask, those that are joined within one pair of braces.
 fn show_groups(rt: &HostRuntime, mask: Mask, c: Connectedness) -> anyhow::Result<()> {
-    for first in 0..8u8 {
-        if mask.is_solid(first) && begins_group(mask, c, first) {
-            print!(rt; " {{")?;
-            show_group(rt, mask, c, first)?;
-            print!(rt; " }}")?;
+    for first in (0..8u8).filter(|first| mask.is_solid(*first) && begins_group(mask, c, *first)) {
+        print!(rt; " {{")?;
+        for voxel in (0..8u8).filter(|voxel| graph::joined(mask, c, first, *voxel)) {
+            print!(rt; " {voxel}")?;
         }
+        print!(rt; " }}")?;
     }
     println!(rt; "")?;
     Ok(())
 }
 
-// The voxels that are joined to one.
-fn show_group(rt: &HostRuntime, mask: Mask, c: Connectedness, first: u8) -> anyhow::Result<()> {
-    for voxel in 0..8u8 {
-        if graph::joined(mask, c, first, voxel) {
-            print!(rt; " {voxel}")?;
-        }
-    }
-    Ok(())
-}
-
 // Whether no lower voxel is joined to this one.
 fn begins_group(mask: Mask, c: Connectedness, first: u8) -> bool {
-    for voxel in 0..first {
-        if graph::joined(mask, c, first, voxel) {
-            return false;
-        }
-    }
-    true
+    (0..first).all(|voxel| !graph::joined(mask, c, first, voxel))
 }
 
 // How many triangles all masks have together under a pair, and at most.
@@ -119,10 +97,6 @@ fn show_totals(rt: &HostRuntime, pair: Pair) -> anyhow::Result<()> {
             empty = empty.saturating_add(1);
         }
     }
-    let s = pair.solid().number();
-    let h = pair.hollow().number();
-    println!(rt;
-        "  under ({s},{h}): {total} triangles, at most {most} in a cube, none in {empty}"
-    )?;
+    println!(rt; "  under {pair}: {total} triangles, at most {most} in a cube, none in {empty}")?;
     Ok(())
 }

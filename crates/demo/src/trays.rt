@@ -1,5 +1,4 @@
 // Triangles put into a record tray and poured into a text tray.
-use std::alloc::{AllocError, Global};
 use std::io::Write;
 use tray::{RecordTray, TextTray, Tray, Triangle, pour};
 
@@ -13,7 +12,7 @@ pub(crate) fn show(rt: &HostRuntime) -> anyhow::Result<()> {
     put(rt, &mut records, 36, 40, 14)?;
     put(rt, &mut records, 39, 14, 40)?;
     println!(rt; "Poured into a text tray over 60 bytes")?;
-    let mut text = TextTray::new(blank(rt.alloc(), 60)?);
+    let mut text = TextTray::new(vec![in rt.alloc(); b' '; 60]?);
     let poured = pour(&records, &mut text);
     let free = text.free();
     println!(rt; "  {poured} went over, free places: {free}")?;
@@ -25,27 +24,16 @@ pub(crate) fn show(rt: &HostRuntime) -> anyhow::Result<()> {
     Ok(())
 }
 
-// Makes a triangle and puts it into a tray, and tells what came of it.
+// Makes a triangle and puts it into a tray, and tells what came of it; the numbers are printed as they came, before they
+// are a triangle.
 fn put<T: Tray>(rt: &HostRuntime, tray: &mut T, p: u32, q: u32, r: u32) -> anyhow::Result<()> {
-    let triangle = match Triangle::new(p, q, r) {
-        Ok(triangle) => triangle,
-        Err(refusal) => {
-            let number = refusal.number();
-            println!(rt; "  ({p},{q},{r}): refused with {number}")?;
-            return Ok(());
-        }
-    };
-    match tray.put(triangle) {
-        Ok(_) => {
-            let free = tray.free();
-            println!(rt; "  ({p},{q},{r}): put in, free places: {free}")?;
-        }
-        Err(_) => println!(rt; "  ({p},{q},{r}): turned away, the tray is full")?,
+    print!(rt; "  ({p},{q},{r}): ")?;
+    match Triangle::new(p, q, r) {
+        Ok(triangle) => match tray.put(triangle) {
+            Ok(()) => println!(rt; "put in, free places: {}", tray.free())?,
+            Err(full) => println!(rt; "turned away, {full}")?,
+        },
+        Err(refusal) => println!(rt; "{refusal}")?,
     }
     Ok(())
-}
-
-// So many blanks.
-fn blank(heap: Global, n: usize) -> Result<Vec<u8>, AllocError> {
-    vec![in heap; b' '; n]
 }

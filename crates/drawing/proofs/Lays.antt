@@ -1,12 +1,9 @@
 -- Triangles laid into any tray, one after the other and list after list. Assumes nothing.
-use Rattle.std.proofs.Common.{◌≡◌, ℕ, zero, suc, ◌+◌, ◌-◌, ◌<◌, ◌≤◌, List, [], ◌∷◌, ◌++◌, map, length, get_or, take, Result, sym, refl, ap, ◌∙◌, inl, inr, append_assoc, arith, length-append, length-take}
+use Rattle.std.proofs.Common.{◌≡◌, ℕ, zero, suc, ◌+◌, ◌-◌, ◌<◌, ◌≤◌, List, [], ◌∷◌, ◌++◌, map, length, get_or, take, Result, sym, refl, ap, ◌∙◌, inl, inr, append_assoc, arith, length-append}
 use mathlib.Core.List.{map-append}
 use lib.ListN.{length-map}
 use Rattle.std.proofs.lemmas.List.{take_more}
 use Rattle.cube.specs.Lists.{In}
-use Rattle.cube.specs.Patches.{laid}
-use Rattle.cube.specs.declared.patch.Patch.{Patch}
-use Rattle.cube.specs.declared.triangle.CubeTriangle.{CubeTriangle}
 use Rattle.tray.specs.Holding.{Held, Lawful, Put, added_all}
 use Rattle.tray.specs.declared.tray.Full.{Full}
 use Rattle.tray.specs.declared.triangle.Triangle.{Triangle}
@@ -22,10 +19,6 @@ at_in (x ∷ xs) (suc i) d h = inr (at_in xs i d (omega arith))
 -- One more of the front of a list, mapped.
 pub map_more : {A B : Type 0} (f : A → B) (xs : List A) (i : ℕ) (d : A) → i < length xs → map f (take (i + 1) xs) ≡ map f (take i xs) ++ f (get_or xs i d) ∷ []
 map_more f xs i d h = ap (map f) (take_more xs i d h) ∙ map-append f (take i xs) (get_or xs i d ∷ [])
-
--- A patch has at most six triangles.
-pub few_of : (p : Patch) (cube : List CubeTriangle) → cube ≡ laid p → length cube ≤ 6
-few_of p cube e = omega (arith, ap length e, length-take p.count p.places, p.few)
 
 -- Two lists go in one after the other as one list does.
 pub added_both : (h : Held) (ts us : List Triangle) → added_all (added_all h ts) us ≡ added_all h (ts ++ us)

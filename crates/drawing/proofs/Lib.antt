@@ -1,4 +1,5 @@
-pub mod Links
 pub mod Lays
 pub mod CubeLays
 pub mod Reaching
+pub mod Lookups
+pub mod Edges

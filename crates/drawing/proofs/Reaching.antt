@@ -1,8 +1,9 @@
 -- Cubes drawn in a row: none yet, one more, and the most that may be. Assumes nothing.
-use Rattle.std.proofs.Common.{◌≡◌, ℕ, zero, suc, ◌+◌, ◌-◌, ◌<◌, ◌≤◌, min, eqb, ◌⊎◌, [], ◌++◌, map, length, is_ok, Some, None, Ok, Option, sym, refl, ap, ◌∙◌, subst, ap₂, ⊎_elim, append_assoc, append-nil, eq-or-lt_of_le, arith, length-append, MatchOption}
+use Rattle.std.proofs.Common.{◌≡◌, ℕ, cond, ◌==◌, zero, suc, ◌+◌, ◌-◌, ◌<◌, ◌≤◌, min, eqb, ◌⊎◌, [], ◌++◌, map, length, is_ok, Some, None, Ok, Option, sym, refl, ap, ◌∙◌, subst, ap₂, ⊎_elim, append_assoc, append-nil, eq-or-lt_of_le, arith, length-append, MatchOption}
 use mathlib.Core.List.{map-append}
 use lib.ListN.{length-map}
 use Rattle.std.proofs.lemmas.Bool.{false≢true, cases_lt, cond_both, eqb-true, eqb-false}
+use Rattle.std.specs.Option.{unwrap_or}
 use Rattle.grid.specs.Cubes.{cube_count}
 use Rattle.grid.specs.declared.sides.Sides.{Sides}
 use Rattle.grid.specs.declared.voxel.Voxel.{Voxel}
@@ -167,3 +168,8 @@ module _ {S : Type 0} {holds : S → Held} {keeps : ℕ → S → S → Type 0} 
       let ends = ends_of budget k left (holds e).free r.stop rest h.ending in
       drawn budget k r.laid s e h.reached ending left d' (subst (Ends m d budget k (holds e).free) (sym is) ends)
       (omega (arith, most)) rest sides test pair cubes triangles
+
+-- How a draw ends, where the ending that stopped it comes first.
+pub ending_or : (stop : Option Ending) (left : ℕ) → ending_of stop left ≡ unwrap_or stop (cond (left == 0) Done Budget)
+ending_or (Some e) left = refl
+ending_or None left = refl

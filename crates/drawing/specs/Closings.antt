@@ -2,11 +2,15 @@
 use Rattle.std.specs.Prelude.{◌≡◌, ℕ, ◌<◌, Ok, Err, Result}
 use Rattle.grid.specs.Cubes.{cube_count}
 use Rattle.drawing.specs.declared.closed.Closed.{Closed}
-use Rattle.drawing.specs.declared.closed.CubesLeft.{CubesLeft}
-use Rattle.drawing.specs.declared.closed.Report.{Report}
+use Rattle.drawing.specs.declared.cubes_left.CubesLeft.{CubesLeft}
 use Rattle.drawing.specs.declared.drawing.Drawing.{Drawing}
+use Rattle.drawing.specs.declared.report.Report.{Report}
+use Rattle.drawing.specs.declared.unfinished.Unfinished.{Unfinished}
 
--- The refusal by number.
+-- The refusal to close by number, with the drawing and without.
+abbrev pub unfinished_number : Unfinished → ℕ
+unfinished_number refusal = 13
+
 abbrev pub close_number : CubesLeft → ℕ
 close_number refusal = 13
 

@@ -7,3 +7,4 @@ pub mod Closings
 pub mod Laying
 pub mod Draws
 pub mod Stretches
+pub mod Texts

@@ -8,8 +8,8 @@ use Rattle.scan.specs.Borders.{BorderRead, LowestLacking}
 use Rattle.scan.specs.Meaning.{Meaning}
 use Rattle.drawing.specs.Borders.{BorderOf, LowestUnlike}
 use Rattle.drawing.specs.Solids.{solids_of}
+use Rattle.drawing.specs.declared.asked.Asked.{Asked}
 use Rattle.drawing.specs.declared.drawing.Drawing.{Drawing}
-use Rattle.drawing.specs.declared.letter.SolidTest.{SolidTest}
 use Rattle.drawing.specs.declared.refusal.OpenRefusal.{OpenRefusal}
 use Rattle.drawing.specs.declared.refusal.OpenRefusal.TheVariants.{ThinSide, ZeroThreshold, NoPair, Lacking, Mixed}
 
@@ -28,12 +28,6 @@ Thin s = (s.x ≡ 1) ⊎ ((s.y ≡ 1) ⊎ (s.z ≡ 1))
 -- Two numbers are those of one of the four pairs.
 abbrev pub Paired : ℕ → ℕ → Type 0
 Paired s h = (p : Pair) × (numbers p ≡ (s, h))
-
--- What was asked of an opening.
-pub record Asked : Type 0 where
-  pub test : SolidTest
-  pub s : ℕ
-  pub h : ℕ
 
 -- The voxel with number 0.
 abbrev pub origin : Voxel

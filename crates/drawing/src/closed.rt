@@ -1,4 +1,4 @@
-// A drawing that is closed, and what it reports.
+// A drawing that is closed.
 ghost use Rattle.std.specs.Prelude.{◌≡◌};
 ghost use Rattle.grid.specs.Cubes.{cube_count};
 
@@ -9,17 +9,4 @@ use crate::drawing::Drawing;
 pub struct Closed {
     pub(crate) drawing: Drawing,
     ghost whole: { drawing.cubes ≡ cube_count drawing.sides },
-}
-
-// How many cubes were drawn, and how many triangles they laid.
-#[derive(Clone, Copy, PartialEq, Eq, Debug)]
-pub struct Report {
-    pub cubes: u32,
-    pub triangles: u32,
-}
-
-// Why a drawing is not closed: cubes are left. It hands the drawing back as it was.
-#[derive(Drop)]
-pub struct CubesLeft {
-    pub drawing: Drawing,
 }

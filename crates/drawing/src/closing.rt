@@ -1,9 +1,11 @@
 // Closing a drawing, and the report of a closed one.
 ghost use Rattle.std.specs.Prelude.{◌≡◌};
-ghost use Rattle.drawing.specs.Closings.{Closes, close_number, report_of};
+ghost use Rattle.drawing.specs.Closings.{Closes, report_of};
 
-use crate::closed::{Closed, CubesLeft, Report};
+use crate::closed::Closed;
+use crate::cubes_left::CubesLeft;
 use crate::drawing::Drawing;
+use crate::report::Report;
 
 impl Drawing {
     // The drawing closed; refused, with the drawing handed back as it was, where cubes are left.
@@ -26,14 +28,5 @@ impl Closed {
             cubes: self.drawing.cubes,
             triangles: self.drawing.triangles,
         }
-    }
-}
-
-impl CubesLeft {
-    // The refusal's number.
-    pub fn number(&self) -> u8
-        ensures { result ≡ close_number self.now }
-    {
-        13
     }
 }

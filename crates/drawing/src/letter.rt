@@ -1,12 +1,26 @@
 // Which readings are solid.
-ghost use Rattle.std.specs.Prelude.{◌≡◌};
+ghost use Rattle.std.specs.Prelude.{◌≡◌, Some};
 ghost use Rattle.drawing.specs.Solids.{is_solid, exchanged};
+ghost use Rattle.drawing.specs.Texts.{letter_text};
+
+use std::fmt;
 
 // H calls readings solid from the threshold upward, L those below it.
 #[derive(Clone, Copy, PartialEq, Eq, Debug)]
 pub enum Letter {
     H,
     L,
+}
+
+impl fmt::Display for Letter {
+    ghost output = { λ x. Some (letter_text x) };
+
+    fn fmt<W: fmt::Write>(&self, f: &mut fmt::Formatter<W>) -> fmt::Result {
+        f.write_str(match self {
+            Letter::H => "H",
+            Letter::L => "L",
+        })
+    }
 }
 
 // The test of what is solid: a threshold and a letter.
@@ -35,9 +49,6 @@ impl SolidTest {
             Letter::H => Letter::L,
             Letter::L => Letter::H,
         };
-        SolidTest {
-            threshold: self.threshold,
-            letter,
-        }
+        SolidTest { letter, ..self }
     }
 }

@@ -1,10 +1,13 @@
 // Drawings of scans: opening, drawing on, closing, and the report.
 #![tactic(auto)]
 
+mod asked;
 mod asking;
 mod border;
 mod closed;
 mod closing;
+mod cube_at;
+mod cubes_left;
 mod draw;
 mod drawing;
 mod laying;
@@ -13,14 +16,20 @@ mod opening;
 mod progress;
 mod reading;
 mod refusal;
+mod report;
 mod stretch;
 #[cfg(test)]
 mod tests;
+mod unfinished;
 
+pub use asked::Asked;
 pub use border::{kind_at, lowest_unlike};
-pub use closed::{Closed, CubesLeft, Report};
+pub use closed::Closed;
+pub use cubes_left::CubesLeft;
 pub use drawing::Drawing;
 pub use letter::{Letter, SolidTest};
 pub use progress::{DrawRefusal, Ending, Progress};
 pub use reading::cube_mask;
 pub use refusal::OpenRefusal;
+pub use report::Report;
+pub use unfinished::Unfinished;

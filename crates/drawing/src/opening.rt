@@ -2,9 +2,9 @@
 ghost use Rattle.std.specs.Prelude.{◌≡◌};
 ghost use Rattle.drawing.specs.Opening.{Opened};
 
+use crate::asked::Asked;
 use crate::border::{kind_at, lowest_unlike};
 use crate::drawing::Drawing;
-use crate::letter::{Letter, SolidTest};
 use crate::refusal::OpenRefusal;
 use cube::Pair;
 use grid::Voxel;
@@ -13,32 +13,21 @@ use scan::{Scan, lowest_lacking};
 impl Drawing {
     // A drawing of the scan, with no cube drawn; refused, the first that applies, over a side of 1, the threshold, the pair,
     // a voxel on the border that lacks a reading, and a border of two kinds.
-    pub fn open<S: Scan>(
-        scan: &S,
-        threshold: u16,
-        letter: Letter,
-        s: u16,
-        h: u16,
-    ) -> Result<Drawing, OpenRefusal>
-        ensures { Opened (S.Scan.means scan.now) (record { test = record { threshold = threshold; letter = letter }; s = s; h = h }) result }
+    pub fn open<S: Scan>(scan: &S, asked: Asked) -> Result<Drawing, OpenRefusal>
+        ensures { Opened (S.Scan.means scan.now) asked result }
     {
+        let Asked { test, s, h } = asked;
         let sides = scan.sides();
         if sides.x() == 1 || sides.y() == 1 || sides.z() == 1 {
             return Err(OpenRefusal::ThinSide);
         }
-        if threshold == 0 {
+        if test.threshold == 0 {
             return Err(OpenRefusal::ZeroThreshold);
         }
-        let Some(pair) = Pair::new(s, h) else {
-            return Err(OpenRefusal::NoPair);
-        };
+        let pair = Pair::try_from((s, h))?;
         if let Some(lacking) = lowest_lacking(scan) {
-            return Err(OpenRefusal::Lacking {
-                voxel: lacking.voxel,
-                fault: lacking.fault,
-            });
+            return Err(lacking.into());
         }
-        let test = SolidTest { threshold, letter };
         let kind = kind_at(scan, test, Voxel { x: 0, y: 0, z: 0 });
         if let Some(voxel) = lowest_unlike(scan, test, kind) {
             return Err(OpenRefusal::Mixed { voxel });

@@ -1,9 +1,12 @@
 // What a draw answers, and why it is refused.
-ghost use Rattle.std.specs.Prelude.{◌≡◌};
+ghost use Rattle.std.specs.Prelude.{◌≡◌, Some};
 ghost use Rattle.drawing.specs.Endings.{draw_number, ending_number};
+ghost use Rattle.drawing.specs.Texts.{draw_text, ending_text, progress_text};
 
 use grid::Voxel;
 use scan::Fault;
+use std::error::Error;
+use std::fmt;
 
 // How a draw ended.
 #[derive(Clone, Copy, PartialEq, Eq, Debug)]
@@ -19,7 +22,8 @@ pub enum Ending {
 }
 
 impl Ending {
-    // The number by which an ending is told that stopped the draw before its budget; none for the other two.
+    // The number by which an ending is told that stopped the draw before its budget; none for the other two, so that it is
+    // no conversion.
     pub fn number(self) -> Option<u8>
         ensures { result ≡ ending_number self }
     {
@@ -28,6 +32,24 @@ impl Ending {
             Ending::Budget => None,
             Ending::Lacking { .. } => Some(11),
             Ending::Full { .. } => Some(12),
+        }
+    }
+}
+
+impl fmt::Display for Ending {
+    ghost output = { λ x. Some (ending_text x) };
+
+    fn fmt<W: fmt::Write>(&self, f: &mut fmt::Formatter<W>) -> fmt::Result {
+        match self {
+            Ending::Done => write!(f, "done"),
+            Ending::Budget => write!(f, "the budget is used up"),
+            Ending::Lacking { cube, .. } => {
+                write!(f, "stopped with 11, no reading in the cube at {cube}")
+            }
+            Ending::Full { triangles, free } => write!(
+                f,
+                "stopped with 12, the next cube has {triangles} triangles, free places: {free}"
+            ),
         }
     }
 }
@@ -41,6 +63,20 @@ pub struct Progress {
     pub ending: Ending,
 }
 
+impl fmt::Display for Progress {
+    ghost output = { λ x. Some (progress_text x) };
+
+    fn fmt<W: fmt::Write>(&self, f: &mut fmt::Formatter<W>) -> fmt::Result {
+        let Progress {
+            drawn,
+            laid,
+            left,
+            ending,
+        } = self;
+        write!(f, "{drawn} cubes, {laid} triangles, {left} left, {ending}")
+    }
+}
+
 // What stands against a draw, in the order in which it is looked at.
 #[derive(Clone, Copy, PartialEq, Eq, Debug)]
 pub enum DrawRefusal {
@@ -50,14 +86,28 @@ pub enum DrawRefusal {
     ZeroBudget,
 }
 
-impl DrawRefusal {
-    // The refusal's number.
-    pub fn number(self) -> u8
-        ensures { result ≡ draw_number self }
-    {
-        match self {
+// The refusal's number.
+impl From<DrawRefusal> for u8 {
+    ghost from_gives = { λ refusal n. n ≡ draw_number refusal };
+
+    fn from(refusal: DrawRefusal) -> u8 {
+        match refusal {
             DrawRefusal::OtherSides => 9,
             DrawRefusal::ZeroBudget => 10,
         }
     }
 }
+
+// The refusal's number and the reason, written out as for an opening.
+impl fmt::Display for DrawRefusal {
+    ghost output = { λ x. Some (draw_text x) };
+
+    fn fmt<W: fmt::Write>(&self, f: &mut fmt::Formatter<W>) -> fmt::Result {
+        match self {
+            DrawRefusal::OtherSides => write!(f, "refused with 9, it has other sides"),
+            DrawRefusal::ZeroBudget => write!(f, "refused with 10, the budget is 0"),
+        }
+    }
+}
+
+impl Error for DrawRefusal {}

@@ -1,9 +1,13 @@
 // Why a drawing is not opened.
-ghost use Rattle.std.specs.Prelude.{◌≡◌};
+ghost use Rattle.std.specs.Prelude.{◌≡◌, Some};
 ghost use Rattle.drawing.specs.Opening.{number};
+ghost use Rattle.drawing.specs.Texts.{open_text};
+ghost use Rattle.drawing.specs.declared.refusal.OpenRefusal.TheVariants.{Lacking, NoPair};
 
 use grid::Voxel;
 use scan::Fault;
+use std::error::Error;
+use std::fmt;
 
 // What stands against opening, in the order in which it is looked at.
 #[derive(Clone, Copy, PartialEq, Eq, Debug)]
@@ -20,12 +24,31 @@ pub enum OpenRefusal {
     Mixed { voxel: Voxel },
 }
 
-impl OpenRefusal {
-    // The refusal's number.
-    pub fn number(self) -> u8
-        ensures { result ≡ number self }
-    {
-        match self {
+// Two numbers are those of no pair.
+impl From<cube::NoPair> for OpenRefusal {
+    ghost from_gives = { λ _ refusal. refusal ≡ NoPair };
+
+    fn from(_numbers: cube::NoPair) -> OpenRefusal {
+        OpenRefusal::NoPair
+    }
+}
+
+// A voxel on the border lacks a reading.
+impl From<scan::Lacking> for OpenRefusal {
+    ghost from_gives = { λ lacking refusal. refusal ≡ Lacking lacking.voxel lacking.fault };
+
+    fn from(lacking: scan::Lacking) -> OpenRefusal {
+        let scan::Lacking { voxel, fault } = lacking;
+        OpenRefusal::Lacking { voxel, fault }
+    }
+}
+
+// The refusal's number.
+impl From<OpenRefusal> for u8 {
+    ghost from_gives = { λ refusal n. n ≡ number refusal };
+
+    fn from(refusal: OpenRefusal) -> u8 {
+        match refusal {
             OpenRefusal::ThinSide => 4,
             OpenRefusal::ZeroThreshold => 5,
             OpenRefusal::NoPair => 6,
@@ -34,3 +57,25 @@ impl OpenRefusal {
         }
     }
 }
+
+// The refusal's number, the reason, and the voxel that it tells. Each is written out: with the number printed by its own
+// call, what a case prints was left open.
+impl fmt::Display for OpenRefusal {
+    ghost output = { λ x. Some (open_text x) };
+
+    fn fmt<W: fmt::Write>(&self, f: &mut fmt::Formatter<W>) -> fmt::Result {
+        match self {
+            OpenRefusal::ThinSide => write!(f, "refused with 4, a side is 1"),
+            OpenRefusal::ZeroThreshold => write!(f, "refused with 5, the threshold is 0"),
+            OpenRefusal::NoPair => write!(f, "refused with 6, no pair has these numbers"),
+            OpenRefusal::Lacking { voxel, .. } => {
+                write!(f, "refused with 7, no reading at {voxel}")
+            }
+            OpenRefusal::Mixed { voxel } => {
+                write!(f, "refused with 8, the border changes kind at {voxel}")
+            }
+        }
+    }
+}
+
+impl Error for OpenRefusal {}

@@ -1,11 +1,10 @@
 // The housing drawn by lists of calls: with refusals on the way, under each pair, and exchanged.
-use crate::housing::place;
-use crate::{housing, telling};
+use crate::housing;
 use anyhow::anyhow;
 use cube::Pair;
-use drawing::Letter;
+use drawing::{Asked, Letter};
 use scan::{Cutout, Lengths, Phantom, Scan};
-use session::{Answer, Call, Entry, State};
+use session::{Call, Entry, State};
 use std::alloc::{AllocError, Global};
 use tray::{RecordTray, Tray};
 
@@ -37,19 +36,18 @@ pub(crate) fn show(rt: &HostRuntime) -> anyhow::Result<()> {
 
 // Tries to open two cut-outs of the housing: one voxel thick, and the metal without the voxels around it.
 fn show_cutouts(rt: &HostRuntime, phantom: &Phantom) -> anyhow::Result<()> {
-    let calls = [open(500, Letter::H, 18, 6)];
+    let calls = [Call::Open(housing::asked(Letter::H, Pair::S18H6))];
     println!(rt; "Cut-outs of it that are not opened")?;
-    let thin = Cutout::new(phantom, place(0, 0, 0), Lengths { x: 6, y: 7, z: 1 });
+    let thin = Cutout::new(phantom, [0, 0, 0].into(), Lengths { x: 6, y: 7, z: 1 });
     make(rt, &thin, &mut [], &calls)?;
-    let bare = Cutout::new(phantom, place(1, 1, 1), Lengths { x: 4, y: 5, z: 5 });
+    let bare = Cutout::new(phantom, [1, 1, 1].into(), Lengths { x: 4, y: 5, z: 5 });
     make(rt, &bare, &mut [], &calls)?;
     Ok(())
 }
 
 // Draws the housing under a pair, and tells what that makes of it.
 fn show_pair(rt: &HostRuntime, phantom: &Phantom, pair: Pair, first: u32) -> anyhow::Result<()> {
-    let (s, h) = numbers(pair);
-    println!(rt; "Drawn under ({s},{h})")?;
+    println!(rt; "Drawn under {pair}")?;
     let count = draw_by(rt, phantom, &over_two_trays(Letter::H, pair))?;
     compare(rt, first, count)?;
     housing::show_touching(rt, phantom, pair)
@@ -65,18 +63,16 @@ fn compare(rt: &HostRuntime, first: u32, count: u32) -> anyhow::Result<()> {
     Ok(())
 }
 
-// The two numbers of a pair.
-fn numbers(pair: Pair) -> (u16, u16) {
-    (pair.solid().number(), pair.hollow().number())
-}
-
 // Calls that are refused, and tray 0 emptied each time that it is full.
 fn with_refusals() -> [Call; 14] {
+    let asked = housing::asked(Letter::H, Pair::S18H6);
+    let mut none_solid = asked;
+    none_solid.test.threshold = 0;
     [
         draw(0, 60),
-        open(0, Letter::H, 18, 6),
-        open(500, Letter::H, 18, 18),
-        open(500, Letter::H, 18, 6),
+        Call::Open(none_solid),
+        Call::Open(Asked { h: 18, ..asked }),
+        Call::Open(asked),
         Call::DrawOther {
             other: 0,
             tray: 0,
@@ -96,23 +92,12 @@ fn with_refusals() -> [Call; 14] {
 
 // Tray 0 filled, and the rest drawn into tray 1.
 fn over_two_trays(letter: Letter, pair: Pair) -> [Call; 4] {
-    let (s, h) = numbers(pair);
     [
-        open(500, letter, s, h),
+        Call::Open(housing::asked(letter, pair)),
         draw(0, 200),
         draw(1, 200),
         Call::Close,
     ]
-}
-
-// The call that opens the scan.
-fn open(threshold: u16, letter: Letter, s: u16, h: u16) -> Call {
-    Call::Open {
-        threshold,
-        letter,
-        s,
-        h,
-    }
 }
 
 // The call that draws on.
@@ -122,14 +107,13 @@ fn draw(tray: usize, budget: u32) -> Call {
 
 // The calls, with no answer yet.
 fn unanswered(heap: Global, calls: &[Call]) -> Result<Vec<Entry>, AllocError> {
-    let mut entries = Vec::new(heap);
-    for call in calls {
-        entries.push(Entry {
+    calls
+        .iter()
+        .map(|call| Entry {
             call: *call,
-            answer: Answer::NotMade,
-        })?;
-    }
-    Ok(entries)
+            answer: None,
+        })
+        .collect(heap)
 }
 
 // Draws the housing into two trays by a list of calls, and answers the number of triangles in all.
@@ -156,7 +140,7 @@ fn make<S: Scan>(
     let mut entries = unanswered(rt.alloc(), calls)?;
     let state = session::run(scan, &others, trays, entries.as_mut_slice());
     for entry in entries.iter() {
-        telling::tell(rt, *entry)?;
+        println!(rt; "  {entry}")?;
     }
     Ok(state)
 }

@@ -3,7 +3,6 @@
 
 mod drawings;
 mod housing;
-mod telling;
 mod totals;
 
 fn run(rt: &HostRuntime) -> anyhow::Result<()> {

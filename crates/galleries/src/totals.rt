@@ -1,6 +1,7 @@
 // A drawing made at one go: opened, drawn, closed, and asked for its report.
 use crate::housing;
-use anyhow::anyhow;
+use anyhow::Context;
+use cube::Pair;
 use drawing::{Drawing, Letter, Report};
 use scan::Phantom;
 use tray::RecordTray;
@@ -9,17 +10,14 @@ use tray::RecordTray;
 pub(crate) fn show(rt: &HostRuntime) -> anyhow::Result<()> {
     let phantom = housing::phantom(rt.alloc(), 7)?;
     let mut tray = RecordTray::new(rt.alloc(), 400)?;
-    let Some(report) = drawn_whole(&phantom, &mut tray) else {
-        return Err(anyhow!("the housing is not drawn"));
-    };
-    let (cubes, triangles) = (report.cubes, report.triangles);
-    println!(rt; "Drawn at one go under (18,6): {cubes} cubes and {triangles} triangles")?;
+    let report = drawn_whole(&phantom, &mut tray).context("the housing is not drawn")?;
+    println!(rt; "Drawn at one go under (18,6): {report}")?;
     Ok(())
 }
 
 // The totals of the scan drawn into the tray; none where it is refused or the tray is too small.
 fn drawn_whole(phantom: &Phantom, tray: &mut RecordTray) -> Option<Report> {
-    let mut drawing = Drawing::open(phantom, 500, Letter::H, 18, 6).ok()?;
+    let mut drawing = Drawing::open(phantom, housing::asked(Letter::H, Pair::S18H6)).ok()?;
     drawing.draw(phantom, tray, 200).ok()?;
     let closed = drawing.close().ok()?;
     Some(closed.report())

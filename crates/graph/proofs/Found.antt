@@ -1,6 +1,6 @@
 -- Loops found link by link. Assumes nothing.
-use Rattle.std.proofs.Common.{◌≡◌, ℕ, suc, ◌+◌, ◌<◌, ◌≤◌, Bool, true, false, eqb, List, [], ◌∷◌, ◌++◌, map, get_or, drop, sym, refl, ap, ◌∙◌, append-nil, add-one, eqb→eq, drop-cons}
-use Rattle.std.proofs.lemmas.List.{drop_all}
+use Rattle.std.proofs.Common.{◌≡◌, ℕ, suc, ◌+◌, ◌<◌, ◌≤◌, Bool, true, false, eqb, List, [], ◌∷◌, ◌++◌, map, get_or, drop, sym, ap, ◌∙◌, append_assoc, append-nil, add-one, eqb→eq, drop-cons}
+use Rattle.std.proofs.lemmas.List.{drop_all, map_push}
 use Rattle.cube.specs.Lists.{keep}
 use Rattle.cube.specs.Cube.{Kinds, crossing, link_numbers}
 use Rattle.cube.specs.Loops.{loop_from, lowest, loops_of}
@@ -49,8 +49,7 @@ module _ (k : Kinds) (es : List (ℕ × ℕ)) where
 
 -- One list more, read off what holds it.
 pub push_read : {V : Type 0} (f : V → List ℕ) (xs : List V) (v : V) (rest : List (List ℕ)) → map f (xs ++ (v ∷ [])) ++ rest ≡ map f xs ++ (f v ∷ rest)
-push_read f [] v rest = refl
-push_read f (x ∷ xs) v rest = ap (λ ys. f x ∷ ys) (push_read f xs v rest)
+push_read f xs v rest = ap (λ ys. ys ++ rest) (map_push f xs v) ∙ append_assoc (map f xs) (f v ∷ []) rest
 
 -- What is read off a holder that has been followed to its list.
 pub read_on : {V W : Type 0} {u v : W} {vs : List V} {all : List (List ℕ)} (f : V → List ℕ) (items : W → List V) (rest : List (List ℕ))

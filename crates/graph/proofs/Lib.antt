@@ -1,6 +1,7 @@
 pub mod Trails
 pub mod Found
 pub mod Led
-pub mod Marks
+pub mod Tests
 pub mod Closed
 pub mod Looped
+pub mod Made

@@ -1,1 +1,2 @@
+pub mod Solids
 pub mod Successors

@@ -2,6 +2,7 @@
 #![tactic(auto)]
 
 mod joining;
+mod solid;
 mod trace;
 mod walk;
 mod walks;

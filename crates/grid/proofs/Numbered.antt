@@ -1,7 +1,9 @@
 -- Each voxel, link and cube of a scan has its own number. Assumes nothing.
-use Rattle.std.proofs.Common.{◌≡◌, ℕ, ◌-◌, ◌*◌, ◌/◌, ◌<◌, ◌≤◌, Some, None, Option, sym, ap, ◌∙◌, subst, arith, MatchOption}
+use Rattle.std.proofs.Common.{◌≡◌, ℕ, ◌-◌, ◌*◌, ◌/◌, ◌<◌, ◌≤◌, Bool, true, false, Some, None, Option, sym, ap, ◌∙◌, subst, arith, MatchBool, MatchOption}
+use Rattle.std.specs.Bool.{then_some}
 use Rattle.grid.specs.Numbers.{Inside}
 use Rattle.grid.specs.Voxels.{Holds, VoxelNumbered, number_of, count_of}
+use Rattle.grid.specs.Borders.{FirstOnBorder, NoneOnBorder}
 use Rattle.grid.specs.Cubes.{Low, CubeNumbered, cube_number, cube_count}
 use Rattle.grid.specs.Links.{Links, LinkNumbered, NoLink, axis_number, link_number_of}
 use Rattle.grid.specs.declared.axis.Axis.{Axis}
@@ -91,3 +93,20 @@ no_link_above s n h k links e =
 pub no_link_beyond : (s : Sides) (k : Link) (n : ℕ) → Holds s k.lower → link_number_of s k ≡ n → (Links s k → ⊥) → NoLink s n
 no_link_beyond s k n h e none j links q =
     none (subst (Links s) (link_unique s j k links.0 h (q ∙ sym e)) links)
+
+-- a link with the number is told where the scan holds it, and no other has the number
+pub link_told : (s : Sides) (k : Link) (n : ℕ) (b : Bool) → MatchBool b (Links s k) (Links s k → ⊥) → Holds s k.lower → link_number_of s k ≡ n
+    → MatchOption (then_some b k) (NoLink s n) (λ j. LinkNumbered s j n)
+link_told s k n true held h e = link_numbered s k n held (sym e)
+link_told s k n false none h e = no_link_beyond s k n h e none
+
+-- what the answers at the voxels of a border are, made weaker
+pub border_weaker : {T : Type 0} (s : Sides) (o : Option T) {P Q : Voxel → Option T → Type 0} → MatchOption o (NoneOnBorder s P) (FirstOnBorder s P)
+    → ((v : Voxel) (r : Option T) → P v r → Q v r) → MatchOption o (NoneOnBorder s Q) (FirstOnBorder s Q)
+border_weaker s None none weaker = λ v border. weaker v None (none v border)
+border_weaker s (Some x) first weaker = record {
+  voxel = first.voxel;
+  border = first.border;
+  answer = weaker first.voxel (Some x) first.answer;
+  before = λ w border below. weaker w None (first.before w border below);
+}

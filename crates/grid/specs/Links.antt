@@ -1,9 +1,10 @@
 -- Axes, links and their numbers, by the sides of a scan. Assumes nothing.
-use Rattle.std.specs.Prelude.{◌≡◌, ℕ, ◌+◌, ◌*◌, ◌<◌, ◌≢◌}
+use Rattle.std.specs.Prelude.{◌≡◌, ℕ, ◌+◌, ◌*◌, ◌<◌, ◌≤◌, ◌≢◌, Result, MatchResult}
 use Rattle.grid.specs.Numbers.{link_number}
 use Rattle.grid.specs.Voxels.{Holds, count_of}
 use Rattle.grid.specs.declared.axis.Axis.{Axis}
 use Rattle.grid.specs.declared.axis.Axis.TheVariants.{X, Y, Z}
+use Rattle.grid.specs.declared.axis.NoAxis.{NoAxis}
 use Rattle.grid.specs.declared.link.Link.{Link}
 use Rattle.grid.specs.declared.sides.Sides.{Sides}
 use Rattle.grid.specs.declared.voxel.Voxel.{Voxel}
@@ -13,6 +14,10 @@ abbrev pub axis_number : Axis → ℕ
 axis_number X = 0
 axis_number Y = 1
 axis_number Z = 2
+
+-- A number leads to the axis that has it; from 3 on it leads to none, and the error tells it.
+abbrev pub NamesAxis : ℕ → Result Axis NoAxis → Type 0
+NamesAxis n r = MatchResult r (λ a. axis_number a ≡ n) (λ e. (3 ≤ n) × (e.0 ≡ n))
 
 -- The coordinate along an axis.
 abbrev pub along : Axis → Voxel → ℕ

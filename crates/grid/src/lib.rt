@@ -2,17 +2,18 @@
 #![tactic(auto)]
 
 mod axis;
+mod border;
 mod cubes;
+mod extent;
 mod link;
 mod links;
-mod places;
 mod sides;
 #[cfg(test)]
 mod tests;
 mod voxel;
 mod voxels;
 
-pub use axis::Axis;
+pub use axis::{Axis, NoAxis};
 pub use link::Link;
 pub use sides::Sides;
 pub use voxel::Voxel;

@@ -18,22 +18,11 @@ impl Link {
         ensures { MatchOption result (along self.axis self.lower + 1 ≡ 2 ^ 32) (λ v. v ≡ upper_of self) }
     {
         let Voxel { x, y, z } = self.lower;
-        match self.axis {
-            Axis::X => Some(Voxel {
-                x: x.checked_add(1)?,
-                y,
-                z,
-            }),
-            Axis::Y => Some(Voxel {
-                x,
-                y: y.checked_add(1)?,
-                z,
-            }),
-            Axis::Z => Some(Voxel {
-                x,
-                y,
-                z: z.checked_add(1)?,
-            }),
-        }
+        let step = |axis| u32::from(self.axis == axis);
+        Some(Voxel {
+            x: x.checked_add(step(Axis::X))?,
+            y: y.checked_add(step(Axis::Y))?,
+            z: z.checked_add(step(Axis::Z))?,
+        })
     }
 }

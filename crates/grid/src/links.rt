@@ -11,10 +11,7 @@ impl Sides {
     pub fn holds_link(self, link: Link) -> bool
         ensures { MatchBool result (Links self link) (Links self link → ⊥) }
     {
-        match link.upper() {
-            Some(upper) => self.holds(link.lower) && self.holds(upper),
-            None => false,
-        }
+        self.holds(link.lower) && link.upper().is_some_and(|upper| self.holds(upper))
     }
 
     // The link's number, which no other link of the scan has; none if an end lies outside.
@@ -25,7 +22,7 @@ impl Sides {
             return None;
         }
         let lower = self.voxel_number(link.lower)?;
-        Some(3 * lower + link.axis.number())
+        Some(3 * lower + u32::from(link.axis))
     }
 
     // The link with that number; none if the number names no link of the scan.
@@ -33,12 +30,8 @@ impl Sides {
         ensures { MatchOption result (NoLink self number) (λ k. LinkNumbered self k number) }
     {
         let lower = self.voxel_at(number / 3)?;
-        let axis = Axis::from_number(number % 3)?;
+        let axis = Axis::try_from(number % 3).ok()?;
         let link = Link { lower, axis };
-        if self.holds_link(link) {
-            Some(link)
-        } else {
-            None
-        }
+        self.holds_link(link).then_some(link)
     }
 }

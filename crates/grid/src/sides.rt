@@ -1,6 +1,9 @@
 // How many voxels a scan has along each axis.
-ghost use Rattle.std.specs.Prelude.{◌≡◌, MatchBool, MatchOption};
+ghost use Rattle.std.specs.Prelude.{◌≡◌, ◌-◌, MatchOption, Some};
 ghost use Rattle.grid.specs.Numbers.{Side};
+
+use crate::extent::Extent;
+use std::fmt;
 
 // The sides of a scan, each of 1 to 256 voxels.
 #[derive(Clone, Copy, PartialEq, Eq, Debug)]
@@ -16,7 +19,8 @@ impl Sides {
     pub fn new(x: u32, y: u32, z: u32) -> Option<Sides>
         ensures { MatchOption result (Side x × Side y × Side z → ⊥) (λ s. (s.x ≡ x) × (s.y ≡ y) × (s.z ≡ z)) }
     {
-        if is_side(x) && is_side(y) && is_side(z) {
+        let range = 1..=256;
+        if range.contains(&x) && range.contains(&y) && range.contains(&z) {
             Some(Sides { x, y, z })
         } else {
             None
@@ -43,11 +47,37 @@ impl Sides {
     {
         self.z
     }
+
+    // The box of the scan's voxels.
+    pub(crate) fn voxels(self) -> Extent
+        ensures { (result.x ≡ self.x) × (result.y ≡ self.y) × (result.z ≡ self.z) }
+    {
+        Extent {
+            x: self.x,
+            y: self.y,
+            z: self.z,
+        }
+    }
+
+    // The box of the scan's cubes, one fewer than its voxels along each axis.
+    pub(crate) fn cubes(self) -> Extent
+        ensures { (result.x ≡ self.x - 1) × (result.y ≡ self.y - 1) × (result.z ≡ self.z - 1) }
+    {
+        Extent {
+            x: self.x - 1,
+            y: self.y - 1,
+            z: self.z - 1,
+        }
+    }
 }
 
-// Whether a side may be that long.
-fn is_side(n: u32) -> bool
-    ensures { MatchBool result (Side n) (Side n → ⊥) }
-{
-    1 <= n && n <= 256
+// The three lengths, as in 3 x 4 x 5.
+impl fmt::Display for Sides {
+    ghost use Rattle.grid.specs.Texts.{sides_text};
+
+    ghost output = { λ s. Some (sides_text s) };
+
+    fn fmt<W: fmt::Write>(&self, f: &mut fmt::Formatter<W>) -> fmt::Result {
+        write!(f, "{} x {} x {}", self.x, self.y, self.z)
+    }
 }

@@ -2,10 +2,6 @@
 use crate::*;
 use std::test::Fail;
 
-fn place(x: u32, y: u32, z: u32) -> Voxel {
-    Voxel { x, y, z }
-}
-
 #[test]
 fn sides_within_their_range(rt: HostRuntime) {
     let table = [
@@ -26,13 +22,13 @@ fn voxels_and_numbers(rt: HostRuntime) -> Result<(), Fail> {
         return Err(Fail::new("sides within their range"));
     };
     let table = [
-        (place(0, 0, 0), Some(0), true),
-        (place(1, 0, 0), Some(1), true),
-        (place(1, 2, 0), Some(7), true),
-        (place(1, 2, 3), Some(43), false),
-        (place(2, 3, 4), Some(59), true),
-        (place(3, 0, 0), None, false),
-        (place(0, 0, 5), None, false),
+        (Voxel::from([0, 0, 0]), Some(0), true),
+        (Voxel::from([1, 0, 0]), Some(1), true),
+        (Voxel::from([1, 2, 0]), Some(7), true),
+        (Voxel::from([1, 2, 3]), Some(43), false),
+        (Voxel::from([2, 3, 4]), Some(59), true),
+        (Voxel::from([3, 0, 0]), None, false),
+        (Voxel::from([0, 0, 5]), None, false),
     ];
     for (v, number, border) in table {
         assert_eq!(rt; sides.voxel_number(v), number);
@@ -53,17 +49,17 @@ fn links_and_numbers(rt: HostRuntime) -> Result<(), Fail> {
         return Err(Fail::new("sides within their range"));
     };
     let z = Link {
-        lower: place(1, 1, 1),
+        lower: Voxel::from([1, 1, 1]),
         axis: Axis::Z,
     };
     assert_eq!(rt; sides.link_at(41), Some(z));
     assert_eq!(rt; sides.link_number(z), Some(41));
-    assert_eq!(rt; z.upper(), Some(place(1, 1, 2)));
+    assert_eq!(rt; z.upper(), Some(Voxel::from([1, 1, 2])));
     for number in [6, 80, 81, 4294967295] {
         assert_eq!(rt; sides.link_at(number), None);
     }
     let far = Link {
-        lower: place(4294967295, 0, 0),
+        lower: Voxel::from([4294967295, 0, 0]),
         axis: Axis::X,
     };
     assert_eq!(rt; far.upper(), None);
@@ -77,14 +73,26 @@ fn cubes_and_numbers(rt: HostRuntime) -> Result<(), Fail> {
         return Err(Fail::new("sides within their range"));
     };
     assert_eq!(rt; sides.cube_count(), 24);
-    assert_eq!(rt; sides.cube_at(9), Some(place(1, 1, 1)));
-    assert_eq!(rt; sides.cube_number(place(1, 1, 1)), Some(9));
-    assert_eq!(rt; sides.cube_number(place(2, 0, 0)), None);
+    assert_eq!(rt; sides.cube_at(9), Some(Voxel::from([1, 1, 1])));
+    assert_eq!(rt; sides.cube_number(Voxel::from([1, 1, 1])), Some(9));
+    assert_eq!(rt; sides.cube_number(Voxel::from([2, 0, 0])), None);
     assert_eq!(rt; sides.cube_at(24), None);
     let Some(flat) = Sides::new(3, 1, 5) else {
         return Err(Fail::new("sides within their range"));
     };
     assert_eq!(rt; flat.cube_count(), 0);
     assert_eq!(rt; flat.cube_at(0), None);
+    Ok(())
+}
+
+#[test]
+fn the_first_answer_on_a_border(rt: HostRuntime) -> Result<(), Fail> {
+    let Some(sides) = Sides::new(3, 3, 3) else {
+        return Err(Fail::new("sides within their range"));
+    };
+    let high = sides.first_on_border(|v| (v.z == 1).then_some(v));
+    assert_eq!(rt; high, Some(Voxel::from([0, 0, 1])));
+    let inner = sides.first_on_border(|v| (v == Voxel::from([1, 1, 1])).then_some(v));
+    assert_eq!(rt; inner, None);
     Ok(())
 }

@@ -2,7 +2,6 @@
 ghost use Rattle.std.specs.Prelude.{◌≡◌, ◌+◌, ◌<◌, ◌≤◌, ◌⊎◌, MatchBool, MatchOption};
 ghost use Rattle.grid.specs.Voxels.{Holds, OnBorder, VoxelNumbered, count_of};
 
-use crate::places;
 use crate::sides::Sides;
 use crate::voxel::Voxel;
 
@@ -11,28 +10,28 @@ impl Sides {
     pub fn holds(self, v: Voxel) -> bool
         ensures { MatchBool result (Holds self v) (Holds self v → ⊥) }
     {
-        places::inside(self.x, self.y, self.z, v)
+        self.voxels().holds(v)
     }
 
     // How many voxels the scan has.
     pub fn voxel_count(self) -> u32
         ensures { (result ≡ count_of self) × (result ≤ 16777216) }
     {
-        places::place_count(self.x, self.y, self.z)
+        self.voxels().count()
     }
 
     // The voxel's number, which no other voxel of the scan has; none outside the scan.
     pub fn voxel_number(self, v: Voxel) -> Option<u32>
         ensures { MatchOption result (Holds self v → ⊥) (λ n. VoxelNumbered self v n) }
     {
-        places::place_number(self.x, self.y, self.z, v)
+        self.voxels().number(v)
     }
 
     // The voxel with that number; none from the count of voxels on.
     pub fn voxel_at(self, number: u32) -> Option<Voxel>
         ensures { MatchOption result (count_of self ≤ number) (λ v. VoxelNumbered self v number) }
     {
-        places::place_at(self.x, self.y, self.z, number)
+        self.voxels().at(number)
     }
 
     // Whether the voxel lies in the scan with a coordinate that is 0 or the last along its axis.

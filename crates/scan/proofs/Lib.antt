@@ -1,2 +1,1 @@
-mod Makers
 pub mod Rims

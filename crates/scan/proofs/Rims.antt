@@ -1,14 +1,19 @@
--- Voxels on the border by their numbers. Assumes nothing.
-use Rattle.std.proofs.Common.{◌≡◌, ℕ, ◌<◌, subst}
-use Rattle.grid.specs.Voxels.{Holds, OnBorder, VoxelNumbered, count_of, number_of}
+-- The first voxel of a border that lacks a reading. Assumes nothing.
+use Rattle.std.proofs.Common.{◌≡◌, Option, Some, None, MatchOption}
+use Rattle.grid.specs.Borders.{FirstOnBorder, NoneOnBorder}
 use Rattle.grid.specs.declared.sides.Sides.{Sides}
-use Rattle.grid.specs.declared.voxel.Voxel.{Voxel}
-use Rattle.grid.proofs.Numbering.{place_below}
+use Rattle.scan.specs.Borders.{BorderRead, Lacks, LowestLacking}
+use Rattle.scan.specs.Meaning.{Meaning}
+use Rattle.scan.specs.declared.border.Lacking.{Lacking}
 
--- a voxel of the scan has a number below the count
-pub number_below : (s : Sides) (v : Voxel) → Holds s v → number_of s v < count_of s
-number_below s v h = place_below s.x s.y s.z v.x v.y v.z h
-
--- the voxel with the number of one off the border is off the border too
-pub off_border : (s : Sides) (v w : Voxel) (n : ℕ) → VoxelNumbered s v n → (OnBorder s v → ⊥) → OnBorder s w → number_of s w ≡ n → ⊥
-off_border s v w n at off on e = off (subst (OnBorder s) (at.only w on.0 e) on)
+-- what the first voxel of the border that lacks a reading tells, by the sides that a scan was asked for
+pub lowest_told : (m : Meaning) (s : Sides) (r : Option Lacking) → s ≡ m.sides
+    → MatchOption r (NoneOnBorder s (Lacks m)) (FirstOnBorder s (Lacks m)) → MatchOption r (BorderRead m) (λ l. LowestLacking m l.voxel l.fault)
+lowest_told m s None e none = rw e at none
+lowest_told m s (Some l) e answer =
+    let first = rw e at answer in
+    let same : l.voxel ≡ first.voxel = first.answer.0 in record {
+      border = rw same first.border;
+      lacks = rw same first.answer.1;
+      before = λ w border below. first.before w border (rw same at below);
+    }

@@ -6,4 +6,5 @@ pub mod Blocks
 pub mod Phantoms
 pub mod Cuts
 pub mod Borders
+pub mod Texts
 pub mod Laws

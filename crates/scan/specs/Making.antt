@@ -1,5 +1,5 @@
 -- What the makers of scans refuse. Assumes nothing.
-use Rattle.std.specs.Prelude.{◌≡◌, ℕ, ◌≤◌}
+use Rattle.std.specs.Prelude.{◌≡◌, ℕ, ◌≤◌, Result, MatchResult}
 use Rattle.grid.specs.Numbers.{Side}
 use Rattle.grid.specs.declared.axis.Axis.{Axis}
 use Rattle.grid.specs.declared.axis.Axis.TheVariants.{X, Y, Z}
@@ -35,6 +35,10 @@ SpacingFits l = Step l.x × Step l.y × Step l.z
 -- The sides are these lengths.
 abbrev pub SidesAre : Sides → Lengths → Type 0
 SidesAre s l = (s.x ≡ l.x) × (s.y ≡ l.y) × (s.z ≡ l.z)
+
+-- Lengths give the sides that they are, or they are refused over the size since they can be none.
+abbrev pub GivesSides : Lengths → Result Sides Refusal → Type 0
+GivesSides l r = MatchResult r (λ s. SidesAre s l) (λ e. (e ≡ Size) × (SidesFit l → ⊥))
 
 -- The first refusal that applies, where the size is right, the spacing and the shapes.
 abbrev pub Refused : Refusal → (size spacing shapes : Type 0) → Type 0

@@ -34,15 +34,11 @@ impl Block {
         ensures kept { IfOk result (λ b. (b.values ≡ values) × SpacingIs b.spacing spacing) }
         ensures refusal { IfErr result (λ e. Refused e (SidesFit sides × (vec_len values ≡ place_count sides.x sides.y sides.z)) (SpacingFits spacing) (Unit {0})) }
     {
-        let Some(sides) = Sides::new(sides.x, sides.y, sides.z) else {
-            return Err(Refusal::Size);
-        };
+        let sides = Sides::try_from(sides)?;
         if values.len() != sides.voxel_count() as usize {
             return Err(Refusal::Size);
         }
-        let Some(spacing) = Spacing::new(spacing) else {
-            return Err(Refusal::Spacing);
-        };
+        let spacing = Spacing::try_from(spacing)?;
         Ok(Block {
             sides,
             spacing,
@@ -61,9 +57,8 @@ impl Scan for Block {
     }
 
     fn read(&self, place: Voxel) -> Result<u16, Fault> {
-        let Some(number) = self.sides.voxel_number(place) else {
-            return Err(Fault::own(Cause::Outside, place));
-        };
+        let outside = Fault::own(Cause::Outside, place);
+        let number = self.sides.voxel_number(place).ok_or(outside)?;
         let value = self.values[number as usize];
         if value == NO_READING {
             Err(Fault::own(Cause::NoReading, place))

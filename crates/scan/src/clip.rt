@@ -6,6 +6,8 @@ ghost use Rattle.scan.specs.Cuts.{clip_length, clip_low, cut_low, cut_sides};
 use crate::lengths::Lengths;
 use grid::{Sides, Voxel};
 
+// A side comes as a number, with its bound in a clause: `Sides` gives it so, and nothing else takes one.
+
 // The corner along one axis: one past the end goes back to the last voxel.
 fn clip_low(side: u32, low: u32) -> u32
     requires { Side side }
@@ -40,8 +42,5 @@ pub(crate) fn part(sides: Sides, low: Voxel, lengths: Lengths) -> Sides
     let x = clip_length(sides.x(), low.x, lengths.x);
     let y = clip_length(sides.y(), low.y, lengths.y);
     let z = clip_length(sides.z(), low.z, lengths.z);
-    match Sides::new(x, y, z) {
-        Some(part) => part,
-        None => unreachable(),
-    }
+    Sides::new(x, y, z).unwrap()
 }

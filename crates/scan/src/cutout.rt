@@ -43,20 +43,16 @@ impl<S: Scan> Scan for Cutout<S> {
     }
 
     fn read(&self, place: Voxel) -> Result<u16, Fault> {
-        let whole = self.below.sides();
-        if !clip::part(whole, self.low, self.lengths).holds(place) {
+        if !self.sides().holds(place) {
             return Err(Fault::own(Cause::Outside, place));
         }
-        let corner = clip::corner(whole, self.low);
+        let corner = clip::corner(self.below.sides(), self.low);
         let shown = Voxel {
             x: corner.x + place.x,
             y: corner.y + place.y,
             z: corner.z + place.z,
         };
-        match self.below.read(shown) {
-            Ok(reading) => Ok(reading),
-            Err(fault) => Err(fault.pass_up()),
-        }
+        self.below.read(shown).map_err(Fault::pass_up)
     }
 }
 

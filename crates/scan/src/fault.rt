@@ -1,8 +1,11 @@
 // What a scan tells of a place that has no reading.
-ghost use Rattle.std.specs.Prelude.{◌≡◌};
+ghost use Rattle.std.specs.Prelude.{◌≡◌, Some};
 ghost use Rattle.scan.specs.Faults.{cause_number, own_fault, passed_up};
+ghost use Rattle.scan.specs.Texts.{fault_text};
 
 use grid::Voxel;
+use std::error::Error;
+use std::fmt;
 
 // Why a place has no reading.
 #[derive(Clone, Copy, PartialEq, Eq, Debug)]
@@ -13,12 +16,12 @@ pub enum Cause {
     Outside,
 }
 
-impl Cause {
-    // The cause's number: 1 where the voxel has no reading, 2 outside.
-    pub fn number(self) -> u8
-        ensures { result ≡ cause_number self }
-    {
-        match self {
+// The cause's number: 1 where the voxel has no reading, 2 outside.
+impl From<Cause> for u8 {
+    ghost from_gives = { λ cause n. n ≡ cause_number cause };
+
+    fn from(cause: Cause) -> u8 {
+        match cause {
             Cause::NoReading => 1,
             Cause::Outside => 2,
         }
@@ -51,9 +54,24 @@ impl Fault {
         ensures { result ≡ passed_up self }
     {
         Fault {
-            cause: self.cause,
-            at: self.at,
             passed: self.passed.saturating_add(1),
+            ..self
         }
     }
 }
+
+// The fault by its cause's number, as in fault 1 at (1,2,3), passed up by 0.
+impl fmt::Display for Fault {
+    ghost output = { λ fault. Some (fault_text fault) };
+
+    fn fmt<W: fmt::Write>(&self, f: &mut fmt::Formatter<W>) -> fmt::Result {
+        let cause = u8::from(self.cause);
+        write!(
+            f,
+            "fault {cause} at {}, passed up by {}",
+            self.at, self.passed
+        )
+    }
+}
+
+impl Error for Fault {}

@@ -1,5 +1,5 @@
 // What a list of shapes reads at a voxel.
-ghost use Rattle.std.specs.Prelude.{◌≡◌, true};
+ghost use Rattle.std.specs.Prelude.{◌≡◌};
 ghost use Rattle.scan.specs.Phantoms.{phantom_reads, shapes_fit};
 
 use crate::shape::Shape;
@@ -12,26 +12,13 @@ const MOST_SHAPES: usize = 64;
 pub(crate) fn all_fit(shapes: &[Shape]) -> bool
     ensures { result ≡ shapes_fit shapes.now }
 {
-    if shapes.len() > MOST_SHAPES {
-        return false;
-    }
-    for shape in shapes {
-        if !shape.fits() {
-            return false;
-        }
-    }
-    true
+    shapes.len() <= MOST_SHAPES && shapes.iter().all(|shape| shape.fits())
 }
 
 // The value of the first shape that covers the voxel, or 0.
-pub(crate) fn reading(shapes: &[Shape], place: Voxel) -> u16
-    requires { shapes_fit shapes.now ≡ true }
+pub(crate) fn reading(shapes: &[Shape], place: Voxel) -> u32
     ensures { result ≡ phantom_reads shapes.now place }
 {
-    for shape in shapes {
-        if shape.covers(place) {
-            return shape.value as u16;
-        }
-    }
-    0
+    let first = shapes.iter().find(|shape| shape.covers(place));
+    first.map_or(0, |shape| shape.value)
 }

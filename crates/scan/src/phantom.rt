@@ -31,13 +31,9 @@ impl Phantom {
         ensures kept { IfOk result (λ p. (p.shapes ≡ shapes) × SpacingIs p.spacing spacing) }
         ensures refusal { IfErr result (λ e. Refused e (SidesFit sides) (SpacingFits spacing) (ShapesFit shapes.items)) }
     {
-        let Some(sides) = Sides::new(sides.x, sides.y, sides.z) else {
-            return Err(Refusal::Size);
-        };
-        let Some(spacing) = Spacing::new(spacing) else {
-            return Err(Refusal::Spacing);
-        };
-        if !painted::all_fit(shapes.as_slice()) {
+        let sides = Sides::try_from(sides)?;
+        let spacing = Spacing::try_from(spacing)?;
+        if !painted::all_fit(&shapes) {
             return Err(Refusal::Shapes);
         }
         Ok(Phantom {
@@ -57,9 +53,10 @@ impl Scan for Phantom {
         self.sides
     }
 
+    #[tactic(auto, using(crate::specs::Laws::Painting::reads_bound))]
     fn read(&self, place: Voxel) -> Result<u16, Fault> {
         if self.sides.holds(place) {
-            Ok(painted::reading(self.shapes.as_slice(), place))
+            Ok(painted::reading(&self.shapes, place) as u16)
         } else {
             Err(Fault::own(Cause::Outside, place))
         }

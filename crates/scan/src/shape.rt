@@ -1,5 +1,5 @@
 // A box of one value, as phantoms are painted with.
-ghost use Rattle.std.specs.Prelude.{◌≤◌, MatchBool};
+ghost use Rattle.std.specs.Prelude.{◌≡◌, MatchBool};
 ghost use Rattle.scan.specs.Phantoms.{CornerFits, Covers, ShapeFits};
 
 use grid::Voxel;
@@ -14,13 +14,20 @@ pub struct Shape {
 }
 
 impl Shape {
+    // The box between two corners, and the reading that it gives.
+    pub fn new(low: Voxel, high: Voxel, value: u32) -> Shape
+        ensures { (result.low ≡ low) × (result.high ≡ high) × (result.value ≡ value) }
+    {
+        Shape { low, high, value }
+    }
+
     // Whether the voxel lies in the box.
     pub fn covers(self, v: Voxel) -> bool
         ensures { MatchBool result (Covers self v) (Covers self v → ⊥) }
     {
-        between(self.low.x, self.high.x, v.x)
-            && between(self.low.y, self.high.y, v.y)
-            && between(self.low.z, self.high.z, v.z)
+        (self.low.x..=self.high.x).contains(&v.x)
+            && (self.low.y..=self.high.y).contains(&v.y)
+            && (self.low.z..=self.high.z).contains(&v.z)
     }
 
     // Whether a phantom may have the shape: a value of at most 65,534, and coordinates of at most 255.
@@ -29,13 +36,6 @@ impl Shape {
     {
         self.value <= 65_534 && corner_fits(self.low) && corner_fits(self.high)
     }
-}
-
-// Whether a coordinate lies between two others, both included.
-fn between(low: u32, high: u32, n: u32) -> bool
-    ensures { MatchBool result ((low ≤ n) × (n ≤ high)) ((low ≤ n) × (n ≤ high) → ⊥) }
-{
-    low <= n && n <= high
 }
 
 // Whether a shape may have that corner.

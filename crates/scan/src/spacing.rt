@@ -1,11 +1,13 @@
 // How far apart the voxels of a scan lie.
-ghost use Rattle.std.specs.Prelude.{◌≡◌, MatchBool, MatchOption};
-ghost use Rattle.scan.specs.Making.{SpacingFits, Step, per_axis};
+ghost use Rattle.std.specs.Prelude.{◌≡◌};
+ghost use Rattle.scan.specs.Making.{Step, per_axis};
 
 use crate::lengths::Lengths;
+use crate::refusal::Refusal;
 use grid::Axis;
 
-// The way from one voxel to the next along each axis, 1 to 10,000 whole micrometres.
+// The way from one voxel to the next along each axis, 1 to 10,000 whole micrometres. Apart from sides, though both
+// are three bounded numbers: as one type with its bound as a parameter, each clause on a scan would name 256.
 #[derive(Clone, Copy, PartialEq, Eq, Debug)]
 pub struct Spacing {
     x: u32,
@@ -14,19 +16,26 @@ pub struct Spacing {
     ghost fits: { Step x × Step y × Step z },
 }
 
-impl Spacing {
-    // The spacing of these lengths, or none if one of them is outside 1 to 10,000.
-    pub fn new(lengths: Lengths) -> Option<Spacing>
-        ensures { MatchOption result (SpacingFits lengths → ⊥) (λ s. (s.x ≡ lengths.x) × (s.y ≡ lengths.y) × (s.z ≡ lengths.z)) }
-    {
+// The spacing of these lengths; refused over the spacing if one of them is outside 1 to 10,000.
+impl TryFrom<Lengths> for Spacing {
+    ghost use Rattle.scan.specs.Spacings.{GivesSpacing};
+
+    type Error = Refusal;
+
+    ghost try_from_gives = { GivesSpacing };
+
+    fn try_from(lengths: Lengths) -> Result<Spacing, Refusal> {
         let Lengths { x, y, z } = lengths;
-        if is_step(x) && is_step(y) && is_step(z) {
-            Some(Spacing { x, y, z })
+        let range = 1..=10_000;
+        if range.contains(&x) && range.contains(&y) && range.contains(&z) {
+            Ok(Spacing { x, y, z })
         } else {
-            None
+            Err(Refusal::Spacing)
         }
     }
+}
 
+impl Spacing {
     // Micrometres from voxel to voxel along the axis.
     pub fn along(self, axis: Axis) -> u32
         ensures { (result ≡ per_axis axis self.x self.y self.z) × Step result }
@@ -37,11 +46,4 @@ impl Spacing {
             Axis::Z => self.z,
         }
     }
-}
-
-// Whether voxels may lie that far apart.
-fn is_step(n: u32) -> bool
-    ensures { MatchBool result (Step n) (Step n → ⊥) }
-{
-    1 <= n && n <= 10_000
 }

@@ -4,10 +4,6 @@ use grid::{Axis, Voxel};
 use std::alloc::{AllocError, Global};
 use std::test::Fail;
 
-fn place(x: u32, y: u32, z: u32) -> Voxel {
-    Voxel { x, y, z }
-}
-
 fn lengths(x: u32, y: u32, z: u32) -> Lengths {
     Lengths { x, y, z }
 }
@@ -21,7 +17,7 @@ fn a_fault_counts_the_scans_up_to_255(rt: HostRuntime) {
     for (passed, after) in [(0, 1), (1, 2), (254, 255), (255, 255)] {
         let up = Fault {
             cause: Cause::NoReading,
-            at: place(3, 2, 1),
+            at: Voxel::from([3, 2, 1]),
             passed,
         }
         .pass_up();
@@ -29,7 +25,7 @@ fn a_fault_counts_the_scans_up_to_255(rt: HostRuntime) {
             up,
             Fault {
                 cause: Cause::NoReading,
-                at: place(3, 2, 1),
+                at: Voxel::from([3, 2, 1]),
                 passed: after,
             }
         );
@@ -41,18 +37,27 @@ fn a_block_reads_in_voxel_order(rt: HostRuntime) -> Result<(), Fail> {
     let values = vec![in rt.alloc(); 10, 11, 12, 13, 14, 15, 16, 65_535, 65_534, 19, 20, 21]?;
     let block = Block::new(lengths(2, 3, 2), lengths(1, 10_000, 7), values)?;
     let table = [
-        (place(0, 0, 0), Ok(10)),
-        (place(1, 0, 0), Ok(11)),
-        (place(0, 1, 0), Ok(12)),
-        (place(0, 0, 1), Ok(16)),
-        (place(1, 0, 1), fault(Cause::NoReading, place(1, 0, 1), 0)),
-        (place(0, 1, 1), Ok(65_534)),
-        (place(1, 2, 1), Ok(21)),
-        (place(2, 0, 0), fault(Cause::Outside, place(2, 0, 0), 0)),
-        (place(0, 3, 0), fault(Cause::Outside, place(0, 3, 0), 0)),
+        (Voxel::from([0, 0, 0]), Ok(10)),
+        (Voxel::from([1, 0, 0]), Ok(11)),
+        (Voxel::from([0, 1, 0]), Ok(12)),
+        (Voxel::from([0, 0, 1]), Ok(16)),
         (
-            place(4_294_967_295, 0, 0),
-            fault(Cause::Outside, place(4_294_967_295, 0, 0), 0),
+            Voxel::from([1, 0, 1]),
+            fault(Cause::NoReading, Voxel::from([1, 0, 1]), 0),
+        ),
+        (Voxel::from([0, 1, 1]), Ok(65_534)),
+        (Voxel::from([1, 2, 1]), Ok(21)),
+        (
+            Voxel::from([2, 0, 0]),
+            fault(Cause::Outside, Voxel::from([2, 0, 0]), 0),
+        ),
+        (
+            Voxel::from([0, 3, 0]),
+            fault(Cause::Outside, Voxel::from([0, 3, 0]), 0),
+        ),
+        (
+            Voxel::from([4_294_967_295, 0, 0]),
+            fault(Cause::Outside, Voxel::from([4_294_967_295, 0, 0]), 0),
         ),
     ];
     for (at, answer) in table {
@@ -62,40 +67,37 @@ fn a_block_reads_in_voxel_order(rt: HostRuntime) -> Result<(), Fail> {
     Ok(())
 }
 
-// The number of a refusal, and 0 for what was made.
-fn refusal<T: Drop>(made: Result<T, Refusal>) -> u8 {
-    match made {
-        Ok(_) => 0,
-        Err(e) => e.number(),
-    }
+// The number of a refusal; none for what was made.
+fn refusal<T: Drop>(made: Result<T, Refusal>) -> Option<u8> {
+    made.err().map(u8::from)
 }
 
 #[test]
 fn the_first_refusal_is_told(rt: HostRuntime) -> Result<(), Fail> {
     let blocks = [
-        (lengths(1, 1, 256), lengths(1, 1, 1), 256, 0),
-        (lengths(1, 1, 257), lengths(1, 1, 1), 257, 1),
-        (lengths(0, 1, 1), lengths(1, 1, 1), 0, 1),
-        (lengths(2, 2, 2), lengths(0, 1, 1), 7, 1),
-        (lengths(2, 2, 2), lengths(1, 1, 0), 8, 2),
-        (lengths(2, 2, 2), lengths(1, 10_001, 1), 8, 2),
+        (lengths(1, 1, 256), lengths(1, 1, 1), 256, None),
+        (lengths(1, 1, 257), lengths(1, 1, 1), 257, Some(1)),
+        (lengths(0, 1, 1), lengths(1, 1, 1), 0, Some(1)),
+        (lengths(2, 2, 2), lengths(0, 1, 1), 7, Some(1)),
+        (lengths(2, 2, 2), lengths(1, 1, 0), 8, Some(2)),
+        (lengths(2, 2, 2), lengths(1, 10_001, 1), 8, Some(2)),
     ];
     for (sides, spacing, count, told) in blocks {
         let values = vec![in rt.alloc(); 0; count]?;
         assert_eq!(rt; refusal(Block::new(sides, spacing, values)), told);
     }
     let phantoms = [
-        (lengths(1, 1, 1), lengths(1, 1, 1), 255, 65_534, 64, 0),
-        (lengths(257, 1, 1), lengths(0, 1, 1), 255, 1, 65, 1),
-        (lengths(1, 1, 1), lengths(0, 1, 1), 255, 1, 65, 2),
-        (lengths(1, 1, 1), lengths(1, 1, 1), 255, 1, 65, 3),
-        (lengths(1, 1, 1), lengths(1, 1, 1), 256, 1, 1, 3),
-        (lengths(1, 1, 1), lengths(1, 1, 1), 255, 65_535, 1, 3),
+        (lengths(1, 1, 1), lengths(1, 1, 1), 255, 65_534, 64, None),
+        (lengths(257, 1, 1), lengths(0, 1, 1), 255, 1, 65, Some(1)),
+        (lengths(1, 1, 1), lengths(0, 1, 1), 255, 1, 65, Some(2)),
+        (lengths(1, 1, 1), lengths(1, 1, 1), 255, 1, 65, Some(3)),
+        (lengths(1, 1, 1), lengths(1, 1, 1), 256, 1, 1, Some(3)),
+        (lengths(1, 1, 1), lengths(1, 1, 1), 255, 65_535, 1, Some(3)),
     ];
     for (sides, spacing, high, value, count, told) in phantoms {
         let shape = Shape {
-            low: place(0, 0, 0),
-            high: place(0, high, 0),
+            low: Voxel::from([0, 0, 0]),
+            high: Voxel::from([0, high, 0]),
             value,
         };
         let shapes = vec![in rt.alloc(); shape; count]?;
@@ -107,18 +109,18 @@ fn the_first_refusal_is_told(rt: HostRuntime) -> Result<(), Fail> {
 // A block of 5, 4 and 3 voxels with a bore along x, and a shape that holds nothing.
 fn bored(heap: Global) -> Result<Vec<Shape>, AllocError> {
     let none = Shape {
-        low: place(3, 0, 0),
-        high: place(0, 3, 2),
+        low: Voxel::from([3, 0, 0]),
+        high: Voxel::from([0, 3, 2]),
         value: 7,
     };
     let bore = Shape {
-        low: place(0, 1, 1),
-        high: place(4, 1, 1),
+        low: Voxel::from([0, 1, 1]),
+        high: Voxel::from([4, 1, 1]),
         value: 0,
     };
     let body = Shape {
-        low: place(1, 0, 0),
-        high: place(4, 3, 2),
+        low: Voxel::from([1, 0, 0]),
+        high: Voxel::from([4, 3, 2]),
         value: 900,
     };
     Ok(vec![in heap; none, bore, body]?)
@@ -128,12 +130,15 @@ fn bored(heap: Global) -> Result<Vec<Shape>, AllocError> {
 fn a_phantom_reads_its_first_shape(rt: HostRuntime) -> Result<(), Fail> {
     let phantom = Phantom::new(lengths(5, 4, 3), lengths(2, 2, 2), bored(rt.alloc())?)?;
     let table = [
-        (place(0, 0, 0), Ok(0)),
-        (place(1, 0, 0), Ok(900)),
-        (place(4, 3, 2), Ok(900)),
-        (place(2, 1, 1), Ok(0)),
-        (place(2, 2, 1), Ok(900)),
-        (place(5, 3, 2), fault(Cause::Outside, place(5, 3, 2), 0)),
+        (Voxel::from([0, 0, 0]), Ok(0)),
+        (Voxel::from([1, 0, 0]), Ok(900)),
+        (Voxel::from([4, 3, 2]), Ok(900)),
+        (Voxel::from([2, 1, 1]), Ok(0)),
+        (Voxel::from([2, 2, 1]), Ok(900)),
+        (
+            Voxel::from([5, 3, 2]),
+            fault(Cause::Outside, Voxel::from([5, 3, 2]), 0),
+        ),
     ];
     for (at, answer) in table {
         assert_eq!(rt; phantom.read(at), answer);
@@ -149,27 +154,27 @@ fn a_cut_out_shows_a_box(rt: HostRuntime) -> Result<(), Fail> {
     values[33] = 65_535;
     values[59] = 6;
     let block = Block::new(lengths(5, 4, 3), lengths(3, 2, 1), values)?;
-    let part = Cutout::new(&block, place(2, 1, 1), lengths(2, 9, 0));
+    let part = Cutout::new(&block, Voxel::from([2, 1, 1]), lengths(2, 9, 0));
     assert_eq!(rt; part.sides().x(), 2);
     assert_eq!(rt; part.sides().y(), 3);
     assert_eq!(rt; part.sides().z(), 1);
     assert_eq!(rt;
-        part.read(place(1, 1, 0)),
-        fault(Cause::NoReading, place(3, 2, 1), 1)
+        part.read(Voxel::from([1, 1, 0])),
+        fault(Cause::NoReading, Voxel::from([3, 2, 1]), 1)
     );
     assert_eq!(rt;
-        part.read(place(0, 0, 1)),
-        fault(Cause::Outside, place(0, 0, 1), 0)
+        part.read(Voxel::from([0, 0, 1])),
+        fault(Cause::Outside, Voxel::from([0, 0, 1]), 0)
     );
     assert_eq!(rt; part.spacing().along(Axis::X), 3);
-    let within = Cutout::new(part, place(1, 1, 7), lengths(1, 1, 1));
+    let within = Cutout::new(part, Voxel::from([1, 1, 7]), lengths(1, 1, 1));
     assert_eq!(rt;
-        within.read(place(0, 0, 0)),
-        fault(Cause::NoReading, place(3, 2, 1), 2)
+        within.read(Voxel::from([0, 0, 0])),
+        fault(Cause::NoReading, Voxel::from([3, 2, 1]), 2)
     );
-    let last = Cutout::new(&block, place(9, 9, 9), lengths(4, 4, 4));
+    let last = Cutout::new(&block, Voxel::from([9, 9, 9]), lengths(4, 4, 4));
     assert_eq!(rt; last.sides().x(), 1);
-    assert_eq!(rt; last.read(place(0, 0, 0)), Ok(6));
+    assert_eq!(rt; last.read(Voxel::from([0, 0, 0])), Ok(6));
     Ok(())
 }
 
@@ -181,10 +186,9 @@ fn the_lowest_border_voxel_without_a_reading(rt: HostRuntime) -> Result<(), Fail
         assert!(rt; bare < values.len());
         values[bare] = 65_535;
         let block = Block::new(lengths(3, 3, 3), lengths(1, 1, 1), values)?;
-        let found = match lowest_lacking(&block) {
-            Some(lacking) => block.sides().voxel_number(lacking.fault.at),
-            None => None,
-        };
+        let found = lowest_lacking(&block).and_then(|lacking| block
+            .sides()
+            .voxel_number(lacking.fault.at));
         assert_eq!(rt; found, told);
     }
     Ok(())

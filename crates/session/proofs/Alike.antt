@@ -3,10 +3,9 @@ use Rattle.std.proofs.Common.{◌≡◌, ℕ, ◌<◌, List, length, refl, arith
 use Rattle.scan.specs.Meaning.{Meaning}
 use Rattle.drawing.specs.declared.closed.Closed.{Closed}
 use Rattle.drawing.specs.declared.drawing.Drawing.{Drawing}
-use Rattle.drawing.specs.declared.letter.Letter.{Letter}
 use Rattle.session.specs.Worlds.{World}
 use Rattle.session.specs.Calls.{IsOpen, CanMake}
-use Rattle.session.specs.Ways.{Way, again, exchanged, asked_by, call_by, TraysBy}
+use Rattle.session.specs.Ways.{Way, call_by, TraysBy}
 use Rattle.session.specs.declared.call.Call.{Call}
 use Rattle.session.specs.declared.call.Call.TheVariants.{Open, Draw, DrawOther, Close, Empty}
 use Rattle.session.specs.declared.state.State.{State}
@@ -70,18 +69,10 @@ module _ {way : Way} {m : Meaning} where
   there_both : {w w' : World} → Alike way m w w' → (t : ℕ) → Both (t < length w.trays) (t < length w'.trays)
   there_both like t = let many = like.trays.many in ((λ below. omega arith), (λ below. omega arith))
 
--- Asked by a way, an opening can be made where one can.
-can_ask : (way : Way) (m : Meaning) (others : List Meaning) (threshold : ℕ) (letter : Letter) (s h : ℕ) (w w' : World)
-    → Both (w.state ≡ Unopened) (w'.state ≡ Unopened)
-    → Both (w.state ≡ Unopened) (CanMake m others w' (asked_by way threshold letter s h))
-can_ask again m others threshold letter s h w w' e = e
-can_ask exchanged m others threshold letter s h w w' e = e
-
 -- A call can be made in the one just where it can by the way in the other.
 pub can_both : (way : Way) (m : Meaning) (others : List Meaning) (w w' : World) → Alike way m w w' → (c : Call)
     → Both (CanMake m others w c) (CanMake m others w' (call_by way c))
-can_both way m others w w' like (Open threshold letter s h) =
-    can_ask way m others threshold letter s h w w' (unopened_both like.states)
+can_both way m others w w' like (Open asked) = unopened_both like.states
 can_both way m others w w' like (Draw t budget) =
     let drawn = open_both like.states in
     let there = there_both like t in

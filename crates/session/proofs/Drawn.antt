@@ -1,8 +1,7 @@
 -- Two draws of drawings that stand alike draw as many cubes and end alike. Assumes nothing.
-use Rattle.std.proofs.Common.{◌≡◌, ℕ, ◌+◌, ◌<◌, ◌≤◌, true, length, is_ok, sym, refl, ap, ◌∙◌, subst, inl, inr, ⊎_elim, arith}
+use Rattle.std.proofs.Common.{◌≡◌, ℕ, ◌+◌, ◌<◌, ◌≤◌, length, sym, refl, ap, ◌∙◌, subst, inl, inr, ⊎_elim, arith}
 use Rattle.std.proofs.lemmas.Bool.{cases_lt}
 use Rattle.grid.specs.Cubes.{cube_count}
-use Rattle.grid.specs.declared.voxel.Voxel.{Voxel}
 use Rattle.scan.specs.Meaning.{Meaning}
 use Rattle.scan.specs.declared.fault.Fault.{Fault}
 use Rattle.surface.specs.Places.{low_of}
@@ -14,12 +13,8 @@ use Rattle.drawing.specs.declared.progress.Ending.TheVariants.{Done, Budget, Lac
 use Rattle.session.specs.Ways.{Way}
 use Rattle.session.proofs.Levels.{Level, compare}
 use Rattle.session.proofs.Likewise.{Likewise, as_many, as_many_in_cube}
-use Rattle.session.proofs.Lowest.{no_fault, one_fault}
-
--- A cube that has a first fault has not all its readings.
-unreadable : (m : Meaning) (low : Voxel) (f : Fault) → FirstFault m low f → Readable m low → ⊥
-unreadable m low f (v, a) read =
-    no_fault (m.at v) f (subst (λ u. is_ok (m.at u) ≡ true) (sym a.place) (read a.index a.cube)) a.lacks
+use Rattle.drawing.proofs.Reaching.{no_fault}
+use Rattle.session.proofs.Lowest.{one_fault}
 
 -- The law of an ending, as what is asked one after the other.
 abbrev InOrder : Meaning → Drawing → (budget k free : ℕ) → Ending → Type 0
@@ -40,7 +35,7 @@ in_order m d budget k free Budget o = inr (less _ _ o.0, inl (o.1, refl))
 in_order m d budget k free (Lacking cube fault) o =
     let at = o.2.0 in
     let first = subst (λ v. FirstFault m v fault) at o.2.1 in
-    inr (less _ _ o.0, inr (less _ _ o.1, inr (unreadable m _ fault first, (fault, ap (λ v. Lacking v fault) at, first))))
+    inr (less _ _ o.0, inr (less _ _ o.1, inr ((λ read. no_fault m _ fault read first), (fault, ap (λ v. Lacking v fault) at, first))))
 in_order m d budget k free (Full triangles told) o =
     inr (less _ _ o.0, inr (less _ _ o.1, inl (o.2.0, (λ i. Full (o.2.1 i) (o.2.2 i)))))
 

@@ -11,8 +11,9 @@ use Rattle.scan.specs.Borders.{BorderRead, LowestLacking}
 use Rattle.scan.specs.Meaning.{Meaning}
 use Rattle.scan.specs.declared.fault.Fault.{Fault}
 use Rattle.drawing.specs.Borders.{BorderOf, LowestUnlike}
-use Rattle.drawing.specs.Opening.{Thin, Paired, Asked, origin, Accepted, Opened}
+use Rattle.drawing.specs.Opening.{Thin, Paired, origin, Accepted, Opened}
 use Rattle.drawing.specs.Solids.{solids_of}
+use Rattle.drawing.specs.declared.asked.Asked.{Asked}
 use Rattle.drawing.specs.declared.drawing.Drawing.{Drawing}
 use Rattle.drawing.specs.declared.letter.SolidTest.{SolidTest}
 use Rattle.drawing.specs.declared.refusal.OpenRefusal.{OpenRefusal}

@@ -1,5 +1,5 @@
 -- One call of a list, from what the call by itself ensures. Assumes nothing.
-use Rattle.std.proofs.Common.{◌≡◌, ℕ, ◌<◌, List, [], ◌++◌, map, length, get_or, set, Ok, Err, Result, sym, refl, ap, ◌∙◌, subst, inl, inr, ⊎_elim, append-nil}
+use Rattle.std.proofs.Common.{◌≡◌, ℕ, ◌<◌, List, [], ◌++◌, map, length, get_or, set, Ok, Err, Result, Some, None, Option, sym, refl, ap, ◌∙◌, subst, inl, inr, ⊎_elim, append-nil}
 use Rattle.std.proofs.lemmas.List.{get_or-map}
 use Rattle.scan.specs.Meaning.{Meaning}
 use Rattle.tray.specs.Holding.{Held}
@@ -10,10 +10,10 @@ use Rattle.drawing.specs.declared.progress.DrawRefusal.{DrawRefusal}
 use Rattle.drawing.specs.declared.progress.DrawRefusal.TheVariants.{OtherSides, ZeroBudget}
 use Rattle.drawing.specs.declared.progress.Progress.{Progress}
 use Rattle.session.specs.Worlds.{World, tray_at}
-use Rattle.session.specs.Calls.{other_at, CanMake, DrawingOn, Made, draw_answer}
+use Rattle.session.specs.Calls.{other_at, CanMake, DrawingOn, Made}
 use Rattle.session.specs.Steps.{world, Steps, StepsAlone, Clears, Tries}
 use Rattle.session.specs.declared.call.Answer.{Answer}
-use Rattle.session.specs.declared.call.Answer.TheVariants.{NotMade}
+use Rattle.session.specs.declared.call.Answer.TheVariants as answer
 use Rattle.session.specs.declared.call.Call.{Call}
 use Rattle.session.specs.declared.call.Call.TheVariants.{DrawOther, Empty}
 use Rattle.session.specs.declared.state.State.{State}
@@ -29,8 +29,8 @@ pub no_more : (s : State) (hs : List Held) (ts : List Triangle) → world s hs (
 no_more s hs ts = ap (world s hs) (append-nil ts)
 
 -- What a draw puts into its tray is laid.
-pub drew : (m : Meaning) (budget t : ℕ) (s : State) (hs hs' : List Held) (d d' : Drawing) (h h' : Held) (r : Result Progress DrawRefusal) (a : Answer)
-    → s ≡ Opened d → tray_at hs t ≡ h → t < length hs → Draws m budget d h r d' h' → a ≡ draw_answer r → hs' ≡ set hs t h'
+pub drew : (m : Meaning) (budget t : ℕ) (s : State) (hs hs' : List Held) (d d' : Drawing) (h h' : Held) (r : Result Progress DrawRefusal) (a : Option Answer)
+    → s ≡ Opened d → tray_at hs t ≡ h → t < length hs → Draws m budget d h r d' h' → a ≡ Some (answer.Drawn r) → hs' ≡ set hs t h'
     → Tries m s hs t budget a (Opened d') hs'
 drew m budget t s hs hs' d d' h h' r a found at lt law told after = (
   (more r law).0,
@@ -60,7 +60,7 @@ drew m budget t s hs hs' d d' h h' r a found at lt law told after = (
     more (Err ZeroBudget) law = ([], stayed law.3)
 
 -- A draw with another scan, which has other sides, is a draw with that scan.
-pub tried_other : (m n : Meaning) (others : List Meaning) (o t budget : ℕ) (s s' : State) (hs hs' : List Held) (a : Answer)
+pub tried_other : (m n : Meaning) (others : List Meaning) (o t budget : ℕ) (s s' : State) (hs hs' : List Held) (a : Option Answer)
     → o < length others → other_at others m o ≡ n → (n.sides ≡ m.sides → ⊥) → Tries n s hs t budget a s' hs'
     → Steps m others s hs (DrawOther o t budget) a s' hs'
 tried_other m n others o t budget s s' hs hs' a lt at apart tries = (
@@ -76,11 +76,11 @@ tried_other m n others o t budget s s' hs hs' a lt at apart tries = (
 
 -- A call that cannot be made changes nothing.
 pub not_made : (m : Meaning) (others : List Meaning) (s : State) (hs : List Held) (c : Call)
-    → ((ts : List Triangle) → CanMake m others (world s hs ts) c → ⊥) → Steps m others s hs c NotMade s hs
+    → ((ts : List Triangle) → CanMake m others (world s hs ts) c → ⊥) → Steps m others s hs c None s hs
 not_made m others s hs c cannot = ([], λ ts. inr (cannot ts, refl, no_more s hs ts))
 
 -- A call that touches no tray lays nothing.
-pub alone : (m : Meaning) (others : List Meaning) (s s' : State) (hs : List Held) (c c' : Call) (a : Answer)
+pub alone : (m : Meaning) (others : List Meaning) (s s' : State) (hs : List Held) (c c' : Call) (a : Option Answer)
     → c ≡ c' → StepsAlone m s c' a s' → Steps m others s hs c a s' hs
 alone m others s s' hs c c' a e h = (
   [],
@@ -89,7 +89,7 @@ alone m others s s' hs c c' a e h = (
 )
 
 -- Nor does the emptying of a tray.
-pub cleared : (m : Meaning) (others : List Meaning) (s s' : State) (hs hs' : List Held) (c : Call) (t : ℕ) (a : Answer)
+pub cleared : (m : Meaning) (others : List Meaning) (s s' : State) (hs hs' : List Held) (c : Call) (t : ℕ) (a : Option Answer)
     → c ≡ Empty t → Clears s hs t a s' hs' → Steps m others s hs c a s' hs'
 cleared m others s s' hs hs' c t a e h = (
   [],

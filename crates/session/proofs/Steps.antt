@@ -1,15 +1,14 @@
 -- A call made where things stand alike, by a way of calling, answers the same and leaves things alike. Assumes nothing.
-use Rattle.std.proofs.Common.{◌≡◌, ℕ, ◌<◌, List, length, Ok, Err, Result, sym, refl, ap, ◌∙◌, inl, inr, arith}
+use Rattle.std.proofs.Common.{◌≡◌, ℕ, ◌<◌, List, length, Ok, Err, Result, Some, None, Option, sym, refl, ap, ◌∙◌, inl, inr, arith}
 use Rattle.grid.specs.Cubes.{cube_count}
 use Rattle.scan.specs.Meaning.{Meaning}
 use Rattle.drawing.specs.Closings.{Closes}
-use Rattle.drawing.specs.Opening.{Asked}
+use Rattle.drawing.specs.declared.asked.Asked.{Asked}
 use Rattle.drawing.specs.declared.closed.Closed.{Closed}
-use Rattle.drawing.specs.declared.closed.CubesLeft.{CubesLeft}
+use Rattle.drawing.specs.declared.cubes_left.CubesLeft.{CubesLeft}
 use Rattle.drawing.specs.declared.drawing.Drawing.{Drawing}
-use Rattle.drawing.specs.declared.letter.Letter.{Letter}
 use Rattle.session.specs.Worlds.{World, tray_at}
-use Rattle.session.specs.Calls.{Opening, open_answer, open_after, DrawingOn, draw_answer, Closing, close_answer, close_after, other_at, CanMake, Answered, Made}
+use Rattle.session.specs.Calls.{Opening, open_answer, open_after, DrawingOn, Closing, close_answer, close_after, other_at, CanMake, Answered, Made}
 use Rattle.session.specs.Ways.{Way, again, exchanged, asked_by, call_by}
 use Rattle.session.specs.declared.call.Answer.{Answer}
 use Rattle.session.specs.declared.call.Answer.TheVariants as answer
@@ -23,11 +22,10 @@ use Rattle.session.proofs.Trays.{more_alike, set_alike, empty_alike}
 use Rattle.session.proofs.Alike.{States, opened, finished, Alike, both_opened, can_both}
 
 -- What an opening is asked for, by a way.
-asked_in : (way : Way) (m : Meaning) (others : List Meaning) (w : World) (threshold : ℕ) (letter : Letter) (s h : ℕ) (a : Answer) (v : World)
-    → Answered m others w (asked_by way threshold letter s h) a v
-    → Opening m (asked_of way (record { test = record { threshold = threshold; letter = letter }; s = s; h = h })) w a v
-asked_in again m others w threshold letter s h a v o = o
-asked_in exchanged m others w threshold letter s h a v o = o
+asked_in : (way : Way) (m : Meaning) (w : World) (asked : Asked) (a : Option Answer) (v : World)
+    → Opening m (asked_by way asked) w a v → Opening m (asked_of way asked) w a v
+asked_in again m w asked a v o = o
+asked_in exchanged m w asked a v o = o
 
 -- Two drawings that stand alike are both closed, or both handed back.
 closes_alike : (way : Way) (m : Meaning) (d d' : Drawing) → Likewise way m d d' → (r r' : Result Closed CubesLeft)
@@ -35,14 +33,14 @@ closes_alike : (way : Way) (m : Meaning) (d d' : Drawing) → Likewise way m d d
     → (close_answer r' ≡ close_answer r) × States way m (close_after r) (close_after r')
 closes_alike way m d d' like (Ok c) (Ok c') o o' =
     let both = carried (Likewise way m) o.1 o'.1 like in
-    ((λ i. answer.Closed (record { cubes = both.cubes i; triangles = both.triangles i })), finished both)
+    ((λ i. answer.Closed (Ok (record { cubes = both.cubes i; triangles = both.triangles i }))), finished both)
 closes_alike way m d d' like (Ok c) (Err e') o o' =
     let count : cube_count d'.sides ≡ cube_count d.sides = ap cube_count like.sides in absurd (omega arith)
 closes_alike way m d d' like (Err e) (Ok c') o o' =
     let count : cube_count d'.sides ≡ cube_count d.sides = ap cube_count like.sides in absurd (omega arith)
 closes_alike way m d d' like (Err e) (Err e') o o' = (refl, opened (carried (Likewise way m) o.1 o'.1 like))
 
-module _ (way : Way) (m : Meaning) (others : List Meaning) (w w' : World) (like : Alike way m w w') (a a' : Answer) (v v' : World) where
+module _ (way : Way) (m : Meaning) (others : List Meaning) (w w' : World) (like : Alike way m w w') (a a' : Option Answer) (v v' : World) where
   -- The answers are the same, and things are alike after.
   abbrev BothAlike : Type 0
   BothAlike = (a' ≡ a) × Alike way m v v'
@@ -52,11 +50,11 @@ module _ (way : Way) (m : Meaning) (others : List Meaning) (w w' : World) (like 
   open_alike asked o o' =
       elim (opens_alike way m asked o.result o'.result o.law o'.law) [
         | inl (e, p, q) ↦ (
-          o'.told ∙ ap open_answer q ∙ sym (o.told ∙ ap open_answer p),
+          o'.told ∙ ap (λ r. Some (open_answer r)) q ∙ sym (o.told ∙ ap (λ r. Some (open_answer r)) p),
           carried (Alike way m) (o.after ∙ ap (open_after w) p) (o'.after ∙ ap (open_after w') q) like,
         )
         | inr (d, d', p, q, drawings) ↦ (
-          o'.told ∙ ap open_answer q ∙ sym (o.told ∙ ap open_answer p),
+          o'.told ∙ ap (λ r. Some (open_answer r)) q ∙ sym (o.told ∙ ap (λ r. Some (open_answer r)) p),
           carried (Alike way m) (o.after ∙ ap (open_after w) p) (o'.after ∙ ap (open_after w') q)
               (record { states = opened drawings; trays = like.trays; laid = like.laid }),
         )
@@ -71,7 +69,7 @@ module _ (way : Way) (m : Meaning) (others : List Meaning) (w w' : World) (like 
       draws_alike way m budget o.before o'.before (tray_at w.trays t) (tray_at w'.trays t) drawings (like.trays.each t)
       o.drawing o'.drawing o.held o'.held k (λ sides. own (sym sides ∙ drawings.of_scan))
       o.result o'.result o.law o'.law in (
-        o'.told ∙ ap draw_answer draws.told ∙ sym o.told,
+        o'.told ∙ ap (λ r. Some (answer.Drawn r)) draws.told ∙ sym o.told,
         carried (Alike way m) o.after o'.after
             (record {
               states = opened draws.drawing;
@@ -85,15 +83,13 @@ module _ (way : Way) (m : Meaning) (others : List Meaning) (w w' : World) (like 
   close_alike o o' =
       let drawings = both_opened like.states o.before o'.before o.found o'.found in
       let closes = closes_alike way m o.before o'.before drawings o.result o'.result o.law o'.law in (
-        o'.told ∙ closes.0 ∙ sym o.told,
+        o'.told ∙ ap Some closes.0 ∙ sym o.told,
         carried (Alike way m) o.after o'.after (record { states = closes.1; trays = like.trays; laid = like.laid }),
       )
 
   -- So it holds of any call that can be made.
   answered_alike : (c : Call) → CanMake m others w c → Answered m others w c a v → Answered m others w' (call_by way c) a' v' → BothAlike
-  answered_alike (Open threshold letter s h) can o o' =
-      open_alike (record { test = record { threshold = threshold; letter = letter }; s = s; h = h }) o
-      (asked_in way m others w' threshold letter s h a' v' o')
+  answered_alike (Open asked) can o o' = open_alike asked o (asked_in way m w' asked a' v' o')
   answered_alike (Draw t budget) can o o' = draw_alike m (λ same. refl) t budget can.1 o o'
   answered_alike (DrawOther other t budget) can o o' = draw_alike (other_at others m other) (λ same. absurd (can.3 same)) t budget can.1 o o'
   answered_alike Close can o o' = close_alike o o'
@@ -112,7 +108,7 @@ module _ (way : Way) (m : Meaning) (others : List Meaning) (w w' : World) (like 
       (in_order w c a v made)
       (in_order w' (call_by way c) a' v' made')
     where
-      in_order : (w : World) (c : Call) (a : Answer) (v : World) → Made m others w c a v
-          → Level (CanMake m others w c) (Answered m others w c a v) ((a ≡ answer.NotMade) × (v ≡ w))
+      in_order : (w : World) (c : Call) (a : Option Answer) (v : World) → Made m others w c a v
+          → Level (CanMake m others w c) (Answered m others w c a v) ((a ≡ None) × (v ≡ w))
       in_order w c a v (inl x) = inl x
       in_order w c a v (inr x) = inr (x.0, (x.1, x.2))

@@ -1,5 +1,5 @@
 -- What a list of calls has laid is the surface of the drawn cubes. Assumes nothing.
-use Rattle.std.proofs.Common.{◌≡◌, ℕ, ◌<◌, List, [], ◌∷◌, ◌++◌, map, length, Ok, Err, Result, sym, refl, ap, ◌∙◌, subst, ap₂, ⊎_elim, append-nil, arith, length-append}
+use Rattle.std.proofs.Common.{◌≡◌, ℕ, ◌<◌, List, [], ◌∷◌, ◌++◌, map, length, Ok, Err, Result, Option, sym, refl, ap, ◌∙◌, subst, ap₂, ⊎_elim, append-nil, arith, length-append}
 use mathlib.Core.List.{map-append, append_cancel_left}
 use Rattle.std.proofs.lemmas.Bool.{cases_lt}
 use Rattle.grid.specs.Cubes.{cube_count}
@@ -13,13 +13,14 @@ use Rattle.surface.specs.Laid.{laid, edges, back}
 use Rattle.surface.specs.Fronts.{OneBorder}
 use Rattle.surface.proofs.Together.{all_whole}
 use Rattle.surface.proofs.Front.{closed}
-use Rattle.drawing.specs.Opening.{Asked, Accepted, Opened as OpenedBy, origin}
+use Rattle.drawing.specs.Opening.{Accepted, Opened as OpenedBy, origin}
 use Rattle.drawing.specs.Closings.{Closes}
 use Rattle.drawing.specs.Draws.{Draws, Drawn}
 use Rattle.drawing.specs.Laying.{corners, surface, Readable}
 use Rattle.drawing.specs.Solids.{solids_of}
+use Rattle.drawing.specs.declared.asked.Asked.{Asked}
 use Rattle.drawing.specs.declared.closed.Closed.{Closed}
-use Rattle.drawing.specs.declared.closed.CubesLeft.{CubesLeft}
+use Rattle.drawing.specs.declared.cubes_left.CubesLeft.{CubesLeft}
 use Rattle.drawing.specs.declared.drawing.Drawing.{Drawing}
 use Rattle.drawing.specs.declared.letter.SolidTest.{SolidTest}
 use Rattle.drawing.specs.declared.progress.DrawRefusal.{DrawRefusal}
@@ -119,21 +120,21 @@ module _ (m : Meaning) where
   at_state : (w : World) (s : State) → w.state ≡ s → Sound w → Surfaced m s w.laid
   at_state w s e h = subst (λ (x : State). Surfaced m x w.laid) e h
 
-  opening_sound : (asked : Asked) (w : World) (a : Answer) (v : World) → w.state ≡ Unopened → Opening m asked w a v → Sound w → Sound v
+  opening_sound : (asked : Asked) (w : World) (a : Option Answer) (v : World) → w.state ≡ Unopened → Opening m asked w a v → Sound w → Sound v
   opening_sound asked w a v e h was = subst Sound (sym h.after) (go h.result h.law)
     where
       go : (r : Result Drawing OpenRefusal) → OpenedBy m asked r → Sound (open_after w r)
       go (Ok d) law = subst (LaidFor m d) (sym (at_state w Unopened e was)) (laid_none asked d law)
       go (Err refusal) law = was
 
-  drawing_sound : (n : Meaning) (t budget : ℕ) (w : World) (a : Answer) (v : World) → (m.sides ≡ n.sides → n ≡ m)
+  drawing_sound : (n : Meaning) (t budget : ℕ) (w : World) (a : Option Answer) (v : World) → (m.sides ≡ n.sides → n ≡ m)
       → DrawingOn n t budget w a v → Sound w → Sound v
   drawing_sound n t budget w a v own h was =
       let laid = at_state w (Opened h.before) h.found was in
       subst Sound (sym h.after)
       (draws_more n budget h.before h.drawing (tray_at w.trays t) h.held h.result w.laid h.more (λ e. own (sym laid.of_scan ∙ e)) h.law h.put laid)
 
-  closing_sound : (w : World) (a : Answer) (v : World) → Closing w a v → Sound w → Sound v
+  closing_sound : (w : World) (a : Option Answer) (v : World) → Closing w a v → Sound w → Sound v
   closing_sound w a v h was = subst Sound (sym h.after) (go h.result h.law)
     where
       laid_now : LaidFor m h.before w.laid
@@ -145,16 +146,16 @@ module _ (m : Meaning) where
           (kept, shut c.drawing w.laid c.whole kept)
       go (Err e) law = subst (λ (d : Drawing). LaidFor m d w.laid) (sym law.1) laid_now
 
-  answered_sound : (others : List Meaning) (w : World) (c : Call) (a : Answer) (v : World)
+  answered_sound : (others : List Meaning) (w : World) (c : Call) (a : Option Answer) (v : World)
       → CanMake m others w c → Answered m others w c a v → Sound w → Sound v
-  answered_sound others w (Open threshold letter s h) a v can made was = opening_sound _ w a v can made was
+  answered_sound others w (Open asked) a v can made was = opening_sound _ w a v can made was
   answered_sound others w (Draw t budget) a v can made was = drawing_sound m t budget w a v (λ e. refl) made was
   answered_sound others w (DrawOther o t budget) a v can made was =
       drawing_sound (other_at others m o) t budget w a v (λ e. absurd (can.3 (sym e))) made was
   answered_sound others w Close a v can made was = closing_sound w a v made was
   answered_sound others w (Empty t) a v can made was = subst Sound (sym made.1) was
 
-  made_sound : (others : List Meaning) (w : World) (c : Call) (a : Answer) (v : World) → Made m others w c a v → Sound w → Sound v
+  made_sound : (others : List Meaning) (w : World) (c : Call) (a : Option Answer) (v : World) → Made m others w c a v → Sound w → Sound v
   made_sound others w c a v made was =
       ⊎_elim (λ h. answered_sound others w c a v h.0 h.1 was) (λ h. subst Sound (sym h.2) was) made
 

@@ -6,3 +6,4 @@ pub mod Surfaces
 pub mod Ways
 pub mod Whole
 pub mod Numbers
+pub mod Texts

@@ -1,11 +1,11 @@
 -- Two ways to make a list of calls: the same again, and with solid and hollow exchanged. Assumes nothing.
-use Rattle.std.specs.Prelude.{◌≡◌, ℕ, List, map, length}
+use Rattle.std.specs.Prelude.{◌≡◌, ℕ, List, map, length, Option}
 use Rattle.scan.specs.Meaning.{Meaning}
 use Rattle.tray.specs.Holding.{Held}
 use Rattle.surface.specs.Laid.{turn_over}
 use Rattle.drawing.specs.Laying.{corners}
-use Rattle.drawing.specs.Solids.{other}
-use Rattle.drawing.specs.declared.letter.Letter.{Letter}
+use Rattle.drawing.specs.Solids.{exchanged as exchange_test}
+use Rattle.drawing.specs.declared.asked.Asked.{Asked}
 use Rattle.session.specs.Worlds.{World, start, tray_at}
 use Rattle.session.specs.Calls.{Runs}
 use Rattle.session.specs.declared.call.Answer.{Answer}
@@ -18,12 +18,12 @@ pub data Way : Type 0 where
   again : Way
   exchanged : Way
 
-abbrev pub asked_by : Way → (threshold : ℕ) → Letter → (s h : ℕ) → Call
-asked_by again threshold letter s h = Open threshold letter s h
-asked_by exchanged threshold letter s h = Open threshold (other letter) h s
+abbrev pub asked_by : Way → Asked → Asked
+asked_by again asked = asked
+asked_by exchanged asked = record { test = exchange_test asked.test; s = asked.h; h = asked.s }
 
 abbrev pub call_by : Way → Call → Call
-call_by way (Open threshold letter s h) = asked_by way threshold letter s h
+call_by way (Open asked) = Open (asked_by way asked)
 call_by way (Draw t budget) = Draw t budget
 call_by way (DrawOther o t budget) = DrawOther o t budget
 call_by way Close = Close
@@ -46,7 +46,7 @@ pub record TraysBy (way : Way) (hs hs' : List Held) : Type 0 where
 abbrev pub calls_of : List Entry → List Call
 calls_of es = map (λ e. e.call) es
 
-abbrev pub answers_of : List Entry → List Answer
+abbrev pub answers_of : List Entry → List (Option Answer)
 answers_of es = map (λ e. e.answer) es
 
 -- What two lists of calls have in common: each call has the same answer, the same triangles are laid in the same order,

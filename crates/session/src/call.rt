@@ -1,16 +1,11 @@
 // The calls that can be listed, and their answers.
-use drawing::{DrawRefusal, Letter, OpenRefusal, Progress, Report};
+use drawing::{Asked, DrawRefusal, OpenRefusal, Progress, Report, Unfinished};
 
 // One call. A tray, and a scan other than the one that is drawn, goes by its place in a list.
 #[derive(Clone, Copy, PartialEq, Eq, Debug)]
 pub enum Call {
     // Opens the scan.
-    Open {
-        threshold: u16,
-        letter: Letter,
-        s: u16,
-        h: u16,
-    },
+    Open(Asked),
     // Draws at most so many cubes into a tray.
     Draw {
         tray: usize,
@@ -33,27 +28,19 @@ pub enum Call {
 // What a call answered.
 #[derive(Clone, Copy, PartialEq, Eq, Debug)]
 pub enum Answer {
-    // At that point the call cannot be made, and nothing changed.
-    NotMade,
-    // The scan is open for drawing.
-    Opened,
-    // The scan was not opened.
-    OpenRefused(OpenRefusal),
-    // The draw did so much.
-    Drawn(Progress),
-    // The draw was refused.
-    DrawRefused(DrawRefusal),
-    // The drawing is closed, and reports its totals.
-    Closed(Report),
-    // Cubes are left, and the drawing stays open.
-    CloseRefused,
+    // The scan is open for drawing, or refused.
+    Opened(Result<(), OpenRefusal>),
+    // The draw did so much, or was refused.
+    Drawn(Result<Progress, DrawRefusal>),
+    // The drawing is closed and reports its totals, or cubes are left.
+    Closed(Result<Report, Unfinished>),
     // The tray is empty.
     Emptied,
 }
 
-// A call, with its answer once it is made.
+// A call, with its answer once it is made; none where it cannot be made, which changes nothing.
 #[derive(Clone, Copy, PartialEq, Eq, Debug)]
 pub struct Entry {
     pub call: Call,
-    pub answer: Answer,
+    pub answer: Option<Answer>,
 }

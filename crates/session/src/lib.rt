@@ -3,6 +3,7 @@
 
 mod call;
 mod number;
+mod printing;
 mod running;
 mod state;
 mod step;

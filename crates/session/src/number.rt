@@ -5,18 +5,16 @@ ghost use Rattle.session.specs.Numbers.{answer_number};
 use crate::call::Answer;
 
 impl Answer {
-    // The number of the refusal that it tells; none where nothing was refused, or the call could not be made.
+    // The number of the refusal that it tells, or of what stopped a draw; none for the other answers, so that it is no
+    // conversion.
     pub fn number(self) -> Option<u8>
         ensures { result ≡ answer_number self }
     {
         match self {
-            Answer::OpenRefused(refusal) => Some(refusal.number()),
-            Answer::Drawn(progress) => progress.ending.number(),
-            Answer::DrawRefused(refusal) => Some(refusal.number()),
-            Answer::CloseRefused => Some(13),
-            Answer::NotMade => None,
-            Answer::Opened => None,
-            Answer::Closed(_) => None,
+            Answer::Opened(opened) => opened.err().map(u8::from),
+            Answer::Drawn(Ok(progress)) => progress.ending.number(),
+            Answer::Drawn(Err(refusal)) => Some(refusal.into()),
+            Answer::Closed(closed) => closed.err().map(u8::from),
             Answer::Emptied => None,
         }
     }

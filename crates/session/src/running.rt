@@ -23,11 +23,10 @@ pub fn run<S: Scan, O: Scan, T: Tray>(
     ensures rest { AllKept T.Tray.holds T.Tray.keeps trays.old trays.new }
 {
     let mut state = State::Unopened;
-    for i in 0..entries.len() {
-        let call = entries[i].call;
-        let (next, answer) = step(scan, others, trays, state, call);
+    for entry in entries.iter_mut() {
+        let (next, answer) = step(scan, others, trays, state, entry.call);
         state = next;
-        entries[i].answer = answer;
+        entry.answer = answer;
     }
     state
 }

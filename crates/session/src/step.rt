@@ -1,16 +1,18 @@
 // One call, made by the public calls of a drawing and of a tray.
 ghost use Rattle.std.specs.Prelude.{◌≡◌, map};
 ghost use Rattle.scan.specs.Meaning.{Meaning};
-ghost use Rattle.session.specs.Calls.{draw_answer};
 ghost use Rattle.session.specs.Keeping.{AllKept};
 ghost use Rattle.session.specs.Steps.{Clears, Steps, StepsAlone, Tries};
 ghost use Rattle.session.specs.declared.call.Call.TheVariants.{Close, DrawOther, Open};
 
 use crate::call::{Answer, Call};
 use crate::state::State;
-use drawing::{DrawRefusal, Drawing, Letter, Progress};
+use drawing::{Asked, Drawing, Unfinished};
 use scan::Scan;
 use tray::Tray;
+
+// What goes along with a call, scans and trays, goes as it is lent: a struct of shared and exclusive loans would be taken
+// apart by each call. What a call leaves of the trays is one word, `AllKept`.
 
 // Makes one call where things stand, and answers how they stand then and what the call answered.
 pub(crate) fn step<S: Scan, O: Scan, T: Tray>(
@@ -19,17 +21,12 @@ pub(crate) fn step<S: Scan, O: Scan, T: Tray>(
     trays: &mut [T],
     state: State,
     call: Call,
-) -> (State, Answer)
+) -> (State, Option<Answer>)
     ensures steps { Steps (S.Scan.means scan.now) (map O.Scan.means others.now) state (map T.Tray.holds trays.old) call result.1 result.0 (map T.Tray.holds trays.new) }
     ensures rest { AllKept T.Tray.holds T.Tray.keeps trays.old trays.new }
 {
     match call {
-        Call::Open {
-            threshold,
-            letter,
-            s,
-            h,
-        } => open(scan, state, threshold, letter, s, h),
+        Call::Open(asked) => open(scan, state, asked),
         Call::Draw { tray, budget } => draw(scan, trays, state, tray, budget),
         Call::DrawOther {
             other,
@@ -42,22 +39,15 @@ pub(crate) fn step<S: Scan, O: Scan, T: Tray>(
 }
 
 // Opens the scan, if nothing was opened yet.
-fn open<S: Scan>(
-    scan: &S,
-    state: State,
-    threshold: u16,
-    letter: Letter,
-    s: u16,
-    h: u16,
-) -> (State, Answer)
-    ensures { StepsAlone (S.Scan.means scan.now) state (Open threshold letter s h) result.1 result.0 }
+fn open<S: Scan>(scan: &S, state: State, asked: Asked) -> (State, Option<Answer>)
+    ensures { StepsAlone (S.Scan.means scan.now) state (Open asked) result.1 result.0 }
 {
     match state {
-        State::Unopened => match Drawing::open(scan, threshold, letter, s, h) {
-            Ok(drawing) => (State::Opened(drawing), Answer::Opened),
-            Err(refusal) => (State::Unopened, Answer::OpenRefused(refusal)),
+        State::Unopened => match Drawing::open(scan, asked) {
+            Ok(drawing) => (State::Opened(drawing), Some(Answer::Opened(Ok(())))),
+            Err(refusal) => (State::Unopened, Some(Answer::Opened(Err(refusal)))),
         },
-        other => (other, Answer::NotMade),
+        other => (other, None),
     }
 }
 
@@ -68,29 +58,20 @@ fn draw<S: Scan, T: Tray>(
     state: State,
     tray: usize,
     budget: u32,
-) -> (State, Answer)
+) -> (State, Option<Answer>)
     ensures tries { Tries (S.Scan.means scan.now) state (map T.Tray.holds trays.old) tray budget result.1 result.0 (map T.Tray.holds trays.new) }
     ensures rest { AllKept T.Tray.holds T.Tray.keeps trays.old trays.new }
 {
+    // By index, here and in `empty`: after `get_mut` nothing is known of the trays.
     if tray >= trays.len() {
-        return (state, Answer::NotMade);
+        return (state, None);
     }
     match state {
         State::Opened(mut drawing) => {
             let result = drawing.draw(scan, &mut trays[tray], budget);
-            (State::Opened(drawing), draw_answer(result))
+            (State::Opened(drawing), Some(Answer::Drawn(result)))
         }
-        other => (other, Answer::NotMade),
-    }
-}
-
-// What a draw answers, as a call of the list.
-fn draw_answer(res: Result<Progress, DrawRefusal>) -> Answer
-    ensures { result ≡ draw_answer res }
-{
-    match res {
-        Ok(progress) => Answer::Drawn(progress),
-        Err(refusal) => Answer::DrawRefused(refusal),
+        other => (other, None),
     }
 }
 
@@ -103,44 +84,46 @@ fn draw_other<S: Scan, O: Scan, T: Tray>(
     other: usize,
     tray: usize,
     budget: u32,
-) -> (State, Answer)
+) -> (State, Option<Answer>)
     ensures steps { Steps (S.Scan.means scan.now) (map O.Scan.means others.now) state (map T.Tray.holds trays.old) (DrawOther other tray budget) result.1 result.0 (map T.Tray.holds trays.new) }
     ensures rest { AllKept T.Tray.holds T.Tray.keeps trays.old trays.new }
 {
-    if other >= others.len() {
-        return (state, Answer::NotMade);
-    }
-    let another = &others[other];
+    let Some(another) = others.get(other) else {
+        return (state, None);
+    };
     if another.sides() == scan.sides() {
-        return (state, Answer::NotMade);
+        return (state, None);
     }
     draw(another, trays, state, tray, budget)
 }
 
 // Closes the drawing, if one is open.
-fn close(state: State) -> (State, Answer)
+fn close(state: State) -> (State, Option<Answer>)
     ensures { (m : Meaning) → StepsAlone m state Close result.1 result.0 }
 {
     match state {
         State::Opened(drawing) => match drawing.close() {
             Ok(closed) => {
                 let report = closed.report();
-                (State::Finished(closed), Answer::Closed(report))
+                (State::Finished(closed), Some(Answer::Closed(Ok(report))))
             }
-            Err(refusal) => (State::Opened(refusal.drawing), Answer::CloseRefused),
+            Err(refusal) => {
+                let answer = Answer::Closed(Err(Unfinished));
+                (State::Opened(refusal.drawing), Some(answer))
+            }
         },
-        other => (other, Answer::NotMade),
+        other => (other, None),
     }
 }
 
 // Empties a tray, if it is there.
-fn empty<T: Tray>(trays: &mut [T], state: State, tray: usize) -> (State, Answer)
+fn empty<T: Tray>(trays: &mut [T], state: State, tray: usize) -> (State, Option<Answer>)
     ensures clears { Clears state (map T.Tray.holds trays.old) tray result.1 result.0 (map T.Tray.holds trays.new) }
     ensures rest { AllKept T.Tray.holds T.Tray.keeps trays.old trays.new }
 {
     if tray >= trays.len() {
-        return (state, Answer::NotMade);
+        return (state, None);
     }
     trays[tray].empty();
-    (state, Answer::Emptied)
+    (state, Some(Answer::Emptied))
 }

@@ -1,22 +1,11 @@
 -- A buffer whose first n lines spell a list: writing the next line, and reading one. Assumes nothing.
-use Rattle.std.proofs.Common.{◌≡◌, ℕ, ◌+◌, ◌*◌, ◌<◌, ◌≤◌, List, [], ◌∷◌, ◌++◌, length, get_or, take, drop, Some, None, Option, sym, ap, ◌∙◌, append_assoc, arith, length-append, length-drop, take-append-drop}
+use Rattle.std.proofs.Common.{◌≡◌, ℕ, ◌+◌, ◌*◌, ◌≤◌, List, [], ◌∷◌, ◌++◌, length, take, drop, sym, ap, ◌∙◌, subst, append_assoc, arith, length-append, length-drop}
 use Rattle.std.proofs.lemmas.List.{take_at, drop_at, length-take-le, length_push}
 use Rattle.tray.specs.declared.triangle.Triangle.{Triangle}
-use Rattle.tray.specs.Holding.{Nth}
-use Rattle.tray.specs.Lines.{LineRead, line_of, with_line}
-use Rattle.tray.specs.Texts.{text_of, spelled_by}
-use Rattle.tray.proofs.LineLaws.{length_line, same_line}
-use Rattle.tray.proofs.TextLaws.{text_push, length_text, spelled_text, text_at}
-
--- The first n lines of the bytes are the text of what they spell.
-pub record Spells (bs : List ℕ) (n : ℕ) : Type 0 where
-  pub within : 27 * n ≤ length bs
-  pub text : text_of (spelled_by n bs) ≡ take (27 * n) bs
-
--- They spell as many triangles as there are lines.
-pub length_spelled : (bs : List ℕ) (n : ℕ) → Spells bs n → length (spelled_by n bs) ≡ n
-length_spelled bs n h =
-    omega (arith, length_text (spelled_by n bs), ap length h.text, length-take-le (27 * n) bs h.within)
+use Rattle.tray.specs.Lines.{line_of, with_line}
+use Rattle.tray.specs.Texts.{Spells, text_of, spelled_by}
+use Rattle.tray.proofs.LineLaws.{length_line}
+use Rattle.tray.proofs.TextLaws.{text_push, length_text, spelled_text}
 
 -- The next line goes behind the text.
 next_line : (bs : List ℕ) (n : ℕ) (t : Triangle) → Spells bs n → with_line bs n t ≡ text_of (spelled_by n bs ++ (t ∷ [])) ++ drop (27 * n + 27) bs
@@ -28,39 +17,22 @@ next_line bs n t h =
 pub spelled_next : (bs : List ℕ) (n : ℕ) (t : Triangle) → Spells bs n → spelled_by (n + 1) (with_line bs n t) ≡ spelled_by n bs ++ (t ∷ [])
 spelled_next bs n t h =
     let ts = spelled_by n bs ++ (t ∷ []) in
-    let long : n + 1 ≡ length ts = omega (arith, length_push (spelled_by n bs) t, length_spelled bs n h) in
+    let long : n + 1 ≡ length ts = omega (arith, length_push (spelled_by n bs) t, h.count) in
     (λ i. spelled_by (long i) (next_line bs n t h i)) ∙ spelled_text ts (drop (27 * n + 27) bs)
 
-pub spells_next : (bs : List ℕ) (n : ℕ) (t : Triangle) → Spells bs n → 27 * n + 27 ≤ length bs → Spells (with_line bs n t) (n + 1)
-spells_next bs n t h room =
+-- The lines of a text spell its list.
+spells_text : (ts : List Triangle) (rest : List ℕ) → Spells (text_of ts ++ rest) (length ts)
+spells_text ts rest = record {
+  within = omega (arith, length-append (text_of ts) rest, length_text ts);
+  count = ap length (spelled_text ts rest);
+  text = ap text_of (spelled_text ts rest) ∙ sym (take_at (text_of ts) rest (27 * length ts) (length_text ts));
+}
+
+pub spells_next : (bs : List ℕ) (n : ℕ) (t : Triangle) → Spells bs n → Spells (with_line bs n t) (n + 1)
+spells_next bs n t h =
     let ts = spelled_by n bs ++ (t ∷ []) in
-    let long : length (text_of ts) ≡ 27 * (n + 1) = omega (arith, length_text ts, length_push (spelled_by n bs) t, length_spelled bs n h) in
-    record {
-      within = omega (arith, ap length (next_line bs n t h), length-append (text_of ts) (drop (27 * n + 27) bs), long);
-      text =
-          ap text_of (spelled_next bs n t h)
-          ∙ sym (take_at (text_of ts) (drop (27 * n + 27) bs) (27 * (n + 1)) long)
-          ∙ ap (take (27 * (n + 1))) (sym (next_line bs n t h));
-    }
-
--- The k-th line is that of the k-th triangle.
-line_at : (bs : List ℕ) (n k : ℕ) (d : Triangle) → Spells bs n → k < n → take 27 (drop (27 * k) bs) ≡ line_of (get_or (spelled_by n bs) k d)
-line_at bs n k d h below =
-    let split : bs ≡ text_of (spelled_by n bs) ++ drop (27 * n) bs = sym (take-append-drop (27 * n) bs) ∙ ap (λ l. l ++ drop (27 * n) bs) (sym h.text) in
-    ap (λ l. take 27 (drop (27 * k) l)) split
-    ∙ text_at (spelled_by n bs) (drop (27 * n) bs) k d (omega (arith, length_spelled bs n h))
-
-first_of : {X : Type 0} (xs : List X) → 0 < length xs → X
-first_of [] h = absurd (omega arith)
-first_of (x ∷ xs) h = x
-
--- What reading a line tells is the triangle that it was written for.
-pub spelled_at : (bs : List ℕ) (n k : ℕ) (r : Option Triangle) → Spells bs n → k < n → LineRead (take 27 (drop (27 * k) bs)) r → Nth (spelled_by n bs) k r
-spelled_at bs n k None h below told =
-    let some : 0 < length (spelled_by n bs) = omega (arith, length_spelled bs n h) in
-    absurd (told _ (line_at bs n k (first_of (spelled_by n bs) some) h below))
-spelled_at bs n k (Some t) h below told =
-    (omega (arith, length_spelled bs n h), same_line t _ (sym told ∙ line_at bs n k t h below))
+    let long : length ts ≡ n + 1 = omega (arith, length_push (spelled_by n bs) t, h.count) in
+    subst (λ x. x) (λ i. Spells (sym (next_line bs n t h) i) (long i)) (spells_text ts (drop (27 * n + 27) bs))
 
 -- A line in its place leaves the bytes as many as they were.
 pub length_with_line : (bs : List ℕ) (n : ℕ) (t : Triangle) → 27 * n + 27 ≤ length bs → length (with_line bs n t) ≡ length bs

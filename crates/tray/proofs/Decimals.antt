@@ -1,7 +1,7 @@
 -- Eight digits and their number: reading what is written, and writing what is read. Assumes nothing.
-use Rattle.std.proofs.Common.{◌≡◌, ℕ, zero, suc, ◌+◌, ◌-◌, ◌*◌, ◌/◌, ◌%◌, ◌^◌, ◌<◌, ◌≤◌, List, [], ◌∷◌, ◌++◌, length, get_or, take, drop, set, sym, refl, ap, ◌∙◌, subst, ⊎_elim, append_assoc, append-nil, lt_of_lt_of_le, pow-suc, arith, lit<, length-append}
-use native.Mathlib.Nat.{pow-zero, pow-le-pow_right}
-use Rattle.std.proofs.lemmas.List.{get_or_append_left, get_or_push, drop_all, drop-set, take_more}
+use Rattle.std.proofs.Common.{◌≡◌, ℕ, zero, suc, ◌+◌, ◌-◌, ◌*◌, ◌/◌, ◌%◌, ◌^◌, ◌<◌, ◌≤◌, List, [], ◌∷◌, ◌++◌, length, get_or, take, sym, refl, ap, ◌∙◌, subst, ⊎_elim, pow-suc, arith, length-append}
+use native.Mathlib.Nat.{pow-zero}
+use Rattle.std.proofs.lemmas.List.{get_or_append_left, get_or_push, take_more}
 use Rattle.std.proofs.lemmas.Bool.{cases_lt}
 use Rattle.tray.specs.Decimal.{digits, value_after}
 
@@ -62,34 +62,15 @@ digit_at (suc k) n i h =
     rw (get_or_push front (48 + n % 10) 0 i last) (last_digit n))
     (cases_lt i k)
 
--- A loop that writes from the last digit to the first: i digits of what is left of the number are still to come.
-pub write_none : (ds bs : List ℕ) (i n : ℕ) → i ≡ length bs → ds ≡ digits i n → ds ≡ digits i n ++ drop i bs
-write_none ds bs i n at e = e ∙ sym (append-nil (digits i n)) ∙ ap (λ l. digits i n ++ l) (sym (drop_all i bs (omega arith)))
-
-pub write_more : (ds bs : List ℕ) (i n d : ℕ) → 0 < i → i ≤ length bs → d ≡ 48 + n % 10 → ds ≡ digits i n ++ drop i bs → ds ≡ digits (i - 1) (n / 10) ++ drop (i - 1) (set bs (i - 1) d)
-write_more ds bs i n d some within digit e =
-    let back : i - 1 + 1 ≡ i = omega arith in
-    let here : i - 1 < length bs = omega arith in
-    let split = ap (λ j. digits j n) (sym back) ∙ digits_more (i - 1) n ∙ ap (λ b. digits (i - 1) (n / 10) ++ (b ∷ [])) (sym digit) in
-    let after = drop-set bs (i - 1) d here ∙ ap (λ j. d ∷ drop j bs) back in
-    e
-    ∙ ap (λ l. l ++ drop i bs) split
-    ∙ append_assoc (digits (i - 1) (n / 10)) (d ∷ []) (drop i bs)
-    ∙ ap (λ l. digits (i - 1) (n / 10) ++ l) (sym after)
-
-pub write_all : (ds bs : List ℕ) (i n : ℕ) → i ≤ 0 → ds ≡ digits i n ++ drop i bs → bs ≡ ds
+-- No bytes are no digits.
+pub digits_none : (bs : List ℕ) (n : ℕ) → length bs ≡ 0 → bs ≡ digits (length bs) n
 unfolding digits
-write_all ds bs i n done e = let none : i ≡ 0 = omega arith in sym (e ∙ ap (λ j. digits j n ++ drop j bs) none)
+digits_none [] n none = refl
+digits_none (b ∷ bs) n none = absurd (omega arith)
 
 -- A loop that reads from the first digit on: n is the number of the first i.
 pub below_more : (i n d : ℕ) → n < 10 ^ i → d < 10 → 10 * n + d < 10 ^ (i + 1)
 below_more i n d small digit = let one : i + 1 ≡ suc i = omega arith in subst (λ j. 10 * n + d < 10 ^ j) (sym one) (omega (arith, pow-suc 10 i))
-
-pub below_eight : (i n : ℕ) → i ≤ 8 → n < 10 ^ i → n < 100000000
-below_eight i n few small = lt_of_lt_of_le small (pow-le-pow_right {n = 10} (lit< tt) few)
-
-pub below_seven : (i n : ℕ) → i < 8 → n < 10 ^ i → n < 10000000
-below_seven i n few small = let at : i ≤ 7 = omega arith in lt_of_lt_of_le small (pow-le-pow_right {n = 10} (lit< tt) at)
 
 pub read_more : (bs : List ℕ) (i n d : ℕ) → i < length bs → d < 10 → get_or bs i 0 ≡ 48 + d → take i bs ≡ digits i n → take (i + 1) bs ≡ digits (i + 1) (10 * n + d)
 read_more bs i n d within small byte e =

@@ -1,11 +1,11 @@
 pub mod Alike
 pub mod BufferLaws
+pub mod Cuts
 pub mod Decimals
 pub mod LineLaws
 pub mod LineReads
-pub mod LineWrites
-pub mod Listed
 pub mod TextLaws
 pub mod TextLoops
+pub mod TextPuts
 pub mod TextReads
 pub mod Trays

@@ -20,23 +20,11 @@ length_line t =
     length-append (cell t.first 44) _
     ∙ omega (arith, length-append (cell t.second 44) (cell t.third 10), length_cell t.first 44, length_cell t.second 44, length_cell t.third 10)
 
--- A cell is cut into its digits and its mark.
-pub cell_digits : (n mark : ℕ) → take 8 (cell n mark) ≡ digits 8 n
-unfolding cell
-cell_digits n mark = take_at (digits 8 n) (mark ∷ []) 8 (length_digits 8 n)
-
 -- A line is cut into its three cells.
 module _ (t : Triangle) where
   rest_one : drop 9 (line_of t) ≡ cell t.second 44 ++ cell t.third 10
   unfolding line_of
   rest_one = drop_at (cell t.first 44) _ 9 (length_cell t.first 44)
-
-  pub first_cell : take 9 (line_of t) ≡ cell t.first 44
-  unfolding line_of
-  first_cell = take_at (cell t.first 44) _ 9 (length_cell t.first 44)
-
-  pub second_cell : take 9 (drop 9 (line_of t)) ≡ cell t.second 44
-  second_cell = ap (take 9) rest_one ∙ take_at (cell t.second 44) _ 9 (length_cell t.second 44)
 
   pub third_cell : drop 18 (line_of t) ≡ cell t.third 10
   third_cell = sym (drop-drop 9 9 (line_of t)) ∙ ap (drop 9) rest_one ∙ drop_at (cell t.second 44) _ 9 (length_cell t.second 44)

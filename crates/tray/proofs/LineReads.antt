@@ -1,86 +1,72 @@
 -- What the readers of a line tell: the number or the triangle that was written, or that none was. Assumes nothing.
-use Rattle.std.proofs.Common.{◌≡◌, ℕ, ◌+◌, ◌-◌, ◌*◌, ◌/◌, ◌<◌, ◌≤◌, List, [], ◌∷◌, ◌++◌, length, get_or, take, drop, Some, None, Ok, Err, Option, Result, sym, ap, ◌∙◌, subst, arith, length-drop, take-append-drop, MatchOption, MatchResult}
+use Rattle.std.proofs.Common.{◌≡◌, ℕ, ◌+◌, ◌*◌, ◌<◌, List, [], ◌∷◌, ◌++◌, length, take, drop, Some, None, Ok, Err, Option, Result, sym, ap, ◌∙◌, subst, arith, length-take, length-drop, take-append-drop, MatchOption, MatchResult, zero, suc, get_or, refl}
+use Rattle.std.specs.List.{IsSplitAt}
+use Rattle.std.specs.Simd.{first_chunks}
 use Rattle.std.specs.Result.{result_ok}
-use Rattle.std.proofs.lemmas.List.{take_all, drop-drop, drop_more, drop_all, get_or_at}
+use Rattle.std.proofs.lemmas.List.{drop-drop, same_from_push}
 use Rattle.tray.specs.declared.triangle.Triangle.{Triangle}
 use Rattle.tray.specs.Corners.{Corners}
 use Rattle.tray.specs.Decimal.{digits}
 use Rattle.tray.specs.Lines.{LineRead, cell, line_of}
-use Rattle.tray.proofs.Decimals.{length_digits, same_number}
-use Rattle.tray.proofs.LineLaws.{length_line, cell_digits, first_cell, second_cell, third_cell}
+use Rattle.tray.proofs.Decimals.{same_number}
+use Rattle.tray.proofs.LineLaws.{length_cell, length_line}
+use Rattle.tray.proofs.Cuts.{same_parts}
 
--- The mark of a cell is its last byte.
-pub cell_mark : (n mark : ℕ) → get_or (cell n mark) 8 0 ≡ mark
+-- What the bytes before the mark tell of the bytes with it.
+pub cell_read : (r : Option ℕ) (bs ds : List ℕ) (mark : ℕ) → bs ≡ ds ++ (mark ∷ []) → MatchOption r ((n : ℕ) → n < 100000000 → ds ≡ digits 8 n → ⊥) (λ n. (n < 100000000) × (ds ≡ digits 8 n)) → MatchOption r ((n : ℕ) → n < 100000000 → bs ≡ cell n mark → ⊥) (λ n. (n < 100000000) × (bs ≡ cell n mark))
 unfolding cell
-cell_mark n mark = get_or_at (digits 8 n) mark [] 0 8 (length_digits 8 n)
-
--- What eight bytes tell of the nine with their mark.
-pub cell_read : (r : Option ℕ) (bs : List ℕ) (mark : ℕ) → length bs ≡ 9 → get_or bs 8 0 ≡ mark → MatchOption r ((n : ℕ) → n < 100000000 → take 8 bs ≡ digits 8 n → ⊥) (λ n. (n < 100000000) × (take 8 bs ≡ digits 8 n)) → MatchOption r ((n : ℕ) → n < 100000000 → bs ≡ cell n mark → ⊥) (λ n. (n < 100000000) × (bs ≡ cell n mark))
-unfolding cell
-cell_read None bs mark long at h = λ n small e. h n small (ap (take 8) e ∙ cell_digits n mark)
-cell_read (Some n) bs mark long at h =
-    let last : drop 8 bs ≡ get_or bs 8 0 ∷ drop 9 bs = drop_more bs 8 0 (omega arith) in
-    let none : drop 9 bs ≡ [] = drop_all 9 bs (omega arith) in
-    let end : drop 8 bs ≡ mark ∷ [] = last ∙ (λ i. at i ∷ none i) in
-    (h.0, sym (take-append-drop 8 bs) ∙ (λ i. h.1 i ++ end i))
+cell_read None bs ds mark cut h = λ n small e. h n small (same_from_push ds (digits 8 n) mark mark (sym cut ∙ e)).0
+cell_read (Some n) bs ds mark cut h = (h.0, cut ∙ ap (λ l. l ++ (mark ∷ [])) h.1)
 
 same_cell : (m n mark : ℕ) → m < 100000000 → n < 100000000 → cell m mark ≡ cell n mark → m ≡ n
-same_cell m n mark p q e = same_number 8 m n p q (sym (cell_digits m mark) ∙ ap (take 8) e ∙ cell_digits n mark)
+unfolding cell
+same_cell m n mark p q e = same_number 8 m n p q (same_from_push (digits 8 m) (digits 8 n) mark mark e).0
 
-pub last_cell : (t : Triangle) → take 9 (drop 18 (line_of t)) ≡ cell t.third 10
-last_cell t = take_all 9 (drop 18 (line_of t)) (omega (arith, length-drop 18 (line_of t), length_line t)) ∙ third_cell t
+-- Bytes that are cut in three, of which the first two have nine.
+pub record Thirds (bs one two three : List ℕ) : Type 0 where
+  pub whole : bs ≡ one ++ (two ++ three)
+  pub one_long : length one ≡ 9
+  pub two_long : length two ≡ 9
 
--- What bytes that are a triangle's line hold in each cell.
-module _ (bs : List ℕ) (t : Triangle) (e : bs ≡ line_of t) where
-  pub in_first : take 9 bs ≡ cell t.first 44
-  in_first = ap (take 9) e ∙ first_cell t
+split_is : (bs front back : List ℕ) → IsSplitAt bs 9 front back → bs ≡ front ++ back
+split_is bs front back h = sym (take-append-drop 9 bs) ∙ (λ i. sym h.1 i ++ sym h.2 i)
 
-  pub in_second : take 9 (drop 9 bs) ≡ cell t.second 44
-  in_second = ap (λ l. take 9 (drop 9 l)) e ∙ second_cell t
+pub thirds : (bs one rest two three : List ℕ) → IsSplitAt bs 9 one rest → IsSplitAt rest 9 two three → Thirds bs one two three
+thirds bs one rest two three g h =
+    record { whole = split_is bs one rest g ∙ ap (λ l. one ++ l) (split_is rest two three h); one_long = g.3; two_long = h.3 }
 
-  pub in_third : take 9 (drop 18 bs) ≡ cell t.third 10
-  in_third = ap (λ l. take 9 (drop 18 l)) e ∙ last_cell t
-
-pub record Cells (bs : List ℕ) (a b c : ℕ) : Type 0 where
-  pub long : length bs ≡ 27
-  pub a_small : a < 100000000
-  pub b_small : b < 100000000
-  pub c_small : c < 100000000
-  pub first : take 9 bs ≡ cell a 44
-  pub second : take 9 (drop 9 bs) ≡ cell b 44
-  pub third : take 9 (drop 18 bs) ≡ cell c 10
-
-joined_cells : (bs : List ℕ) (a b c : ℕ) → Cells bs a b c → bs ≡ cell a 44 ++ (cell b 44 ++ cell c 10)
-joined_cells bs a b c h =
-    let rest : drop 9 (drop 9 bs) ≡ take 9 (drop 18 bs) = drop-drop 9 9 bs ∙ sym (take_all 9 (drop 18 bs) (omega (arith, length-drop 18 bs, h.long))) in
-    sym (take-append-drop 9 bs)
-    ∙ ap (λ l. take 9 bs ++ l) (sym (take-append-drop 9 (drop 9 bs)))
-    ∙ (λ i. h.first i ++ (h.second i ++ (rest ∙ h.third) i))
+-- If they are a triangle's line, each third is a cell.
+pub in_thirds : (bs one two three : List ℕ) (t : Triangle) → Thirds bs one two three → bs ≡ line_of t → (one ≡ cell t.first 44) × (two ≡ cell t.second 44) × (three ≡ cell t.third 10)
+unfolding line_of
+in_thirds bs one two three t h e =
+    let front = same_parts one (two ++ three) (cell t.first 44) _ 9 h.one_long (length_cell t.first 44) (sym h.whole ∙ e) in
+    let back = same_parts two three (cell t.second 44) (cell t.third 10) 9 h.two_long (length_cell t.second 44) front.1 in
+    (front.0, back.0, back.1)
 
 -- What making a triangle of the three numbers tells of the line.
-pub line_read : {E : Type 0} (r : Result Triangle E) (o : Option Triangle) (bs : List ℕ) (a b c : ℕ) → Cells bs a b c → o ≡ result_ok r → MatchResult r (λ t. (t.first ≡ a) × (t.second ≡ b) × (t.third ≡ c)) (λ _. Corners a b c → ⊥) → LineRead bs o
+pub line_read : {E : Type 0} (r : Result Triangle E) (o : Option Triangle) (bs : List ℕ) (a b c : ℕ) → a < 100000000 → b < 100000000 → c < 100000000 → bs ≡ cell a 44 ++ (cell b 44 ++ cell c 10) → o ≡ result_ok r → MatchResult r (λ t. (t.first ≡ a) × (t.second ≡ b) × (t.third ≡ c)) (λ _. Corners a b c → ⊥) → LineRead bs o
 unfolding line_of
-line_read (Ok t) o bs a b c h is made =
-    let line : bs ≡ line_of t = joined_cells bs a b c h ∙ (λ i. cell (sym made.0 i) 44 ++ (cell (sym made.1 i) 44 ++ cell (sym made.2 i) 10)) in
-    subst (LineRead bs) (sym is) line
-line_read (Err e) o bs a b c h is refused =
+line_read (Ok t) o bs a b c x y z whole is made =
+    subst (LineRead bs) (sym is) (whole ∙ (λ i. cell (sym made.0 i) 44 ++ (cell (sym made.1 i) 44 ++ cell (sym made.2 i) 10)))
+line_read (Err e) o bs a b c x y z whole is refused =
     let none : (t : Triangle) → bs ≡ line_of t → ⊥ =
     λ t same.
-    let p = same_cell t.first a 44 (omega (arith, t.below.0)) h.a_small (sym (in_first bs t same) ∙ h.first) in
-    let q = same_cell t.second b 44 (omega (arith, t.below.1)) h.b_small (sym (in_second bs t same) ∙ h.second) in
-    let r = same_cell t.third c 10 (omega (arith, t.below.2)) h.c_small (sym (in_third bs t same) ∙ h.third) in
-    refused (subst (λ x. x) (λ i. Corners (p i) (q i) (r i)) (t.below, t.differ)) in
+    let cut : Thirds bs (cell a 44) (cell b 44) (cell c 10) = record { whole = whole; one_long = length_cell a 44; two_long = length_cell b 44 } in
+    let cells = in_thirds _ _ _ _ t cut same in
+    let p = same_cell a t.first 44 x (omega (arith, t.below.0)) cells.0 in
+    let q = same_cell b t.second 44 y (omega (arith, t.below.1)) cells.1 in
+    let r = same_cell c t.third 10 z (omega (arith, t.below.2)) cells.2 in
+    refused (subst (λ x. x) (λ i. Corners (sym p i) (sym q i) (sym r i)) (t.below, t.differ)) in
     subst (LineRead bs) (sym is) none
 
--- What reading the 27 bytes from `start` on tells of place n.
-pub read_at : (bs : List ℕ) (start n : ℕ) (r : Option Triangle) → start ≡ 27 * n → LineRead (take (start + 27 - start) (drop start bs)) r → LineRead (take 27 (drop (27 * n) bs)) r
-read_at bs start n r at h =
-    let width : start + 27 - start ≡ 27 = omega arith in
-    subst (λ l. LineRead l r) (λ i. take (width i) (drop (at i) bs)) h
-
 -- Fewer bytes than 27 are no line.
-pub read_past : (bs : List ℕ) (n : ℕ) → length bs / 27 ≤ n → LineRead (take 27 (drop (27 * n) bs)) None
-read_past bs n past = λ t e.
-    let left = drop (27 * n) bs in
-    let short : length left < 27 = omega (arith, length-drop (27 * n) bs) in
-    omega (arith, ap length (sym (take_all 27 left (omega arith)) ∙ e), length_line t)
+pub read_past : (bs : List ℕ) (n : ℕ) → length bs < 27 * n + 27 → (t : Triangle) → take 27 (drop (27 * n) bs) ≡ line_of t → ⊥
+read_past bs n short t e = omega (arith, ap length e, length-take 27 (drop (27 * n) bs), length-drop (27 * n) bs, length_line t)
+
+-- The n-th whole chunk of 27 bytes.
+pub chunk_at : (k n : ℕ) (bs d : List ℕ) → n < k → get_or (first_chunks 27 k bs) n d ≡ take 27 (drop (27 * n) bs)
+chunk_at zero n bs d h = absurd (omega arith)
+chunk_at (suc k) zero bs d h = refl
+chunk_at (suc k) (suc n) bs d h =
+    let next : 27 + 27 * n ≡ 27 * suc n = omega arith in
+    chunk_at k n (drop 27 bs) d (omega arith) ∙ ap (take 27) (drop-drop (27 * n) 27 bs ∙ ap (λ j. drop j bs) next)

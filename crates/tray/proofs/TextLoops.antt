@@ -1,11 +1,13 @@
 -- Loops over the lines of a text: one that writes them, and one that reads them. Assumes nothing.
-use Rattle.std.proofs.Common.{◌≡◌, ℕ, ◌+◌, ◌*◌, ◌/◌, ◌<◌, ◌≤◌, true, false, List, [], ◌∷◌, ◌++◌, length, get_or, take, drop, is_some, Some, None, Ok, Err, Option, Result, sym, refl, ap, ◌∙◌, append_assoc, arith, length-append, length-drop, take-append-drop, MatchResult}
-use Rattle.std.proofs.lemmas.List.{take_at, drop_at, drop-drop, drop-take, take-take, take_more, take_all, length-take-le, length_push}
+use Rattle.std.proofs.Common.{◌≡◌, ℕ, ◌+◌, ◌*◌, ◌/◌, ◌<◌, ◌≤◌, true, false, List, [], ◌∷◌, ◌++◌, length, get_or, take, drop, min, is_some, Some, None, Ok, Err, Option, Result, sym, ap, ◌∙◌, append_assoc, append-nil, arith, length-append, MatchResult}
+use Rattle.std.proofs.lemmas.List.{take_at, drop_at, drop-drop, take_more, length-take-le, length_push}
 use Rattle.std.proofs.lemmas.Bool.{true≢false, false≢true}
 use Rattle.tray.specs.declared.triangle.Triangle.{Triangle}
 use Rattle.tray.specs.Lines.{LineRead, line_of, with_line}
+use Rattle.tray.specs.Reading.{Counted}
 use Rattle.tray.specs.Texts.{text_of, FaultAt}
 use Rattle.tray.proofs.LineLaws.{length_line}
+use Rattle.tray.proofs.Cuts.{same_parts}
 use Rattle.tray.proofs.TextLaws.{text_push, length_text}
 
 -- One triangle more is written behind the first n.
@@ -26,56 +28,45 @@ pub write_more : {E : Type 0} (r : Result (Unit {0}) E) (ts : List Triangle) (bs
 write_more (Ok done) ts bs after given n t within read room same e h = h.1 ∙ ap (λ l. with_line l n t) e ∙ with_next ts given n t within read
 write_more (Err full) ts bs after given n t within read room same e h = absurd (omega (arith, h.0))
 
-pub write_none : (given : List ℕ) → given ≡ text_of [] ++ given
-write_none given = refl
+-- A loop over chunks of 27 bytes: what went before the bytes that are left is the text of a list.
+pub record Front (bs left : List ℕ) (size n : ℕ) : Type 0 where
+  pub before : List Triangle
+  pub width : size ≡ 27
+  pub counted : n ≡ length before
+  pub split : bs ≡ text_of before ++ left
 
-pub write_all : (ts : List Triangle) (bs given : List ℕ) (n : ℕ) → length ts ≡ n → bs ≡ text_of (take n ts) ++ drop (27 * n) given → bs ≡ text_of ts ++ drop (27 * length ts) given
-write_all ts bs given n end e = e ∙ (λ i. text_of (take_all n ts (omega arith) i) ++ drop (27 * sym end i) given)
-
--- The first n lines are the text of a list.
-abbrev pub Front : List ℕ → ℕ → Type 0
-Front bs n = (ts : List Triangle) × (take (27 * n) bs ≡ text_of ts) × (n ≡ length ts)
-
-pub front_none : (bs : List ℕ) → Front bs 0
-front_none bs = ([], refl, refl)
-
-pub front_more : (bs : List ℕ) (n : ℕ) (r : Option Triangle) → 27 * n + 27 ≤ length bs → Front bs n → LineRead (take 27 (drop (27 * n) bs)) r → is_some r ≡ true → Front bs (n + 1)
-front_more bs n None room h told is = absurd (false≢true is)
-front_more bs n (Some t) room h told is =
-    let next : 27 * (n + 1) ≡ 27 * n + 27 = omega arith in
-    let cut : take (27 * n + 27) bs ≡ take (27 * n) bs ++ take 27 (drop (27 * n) bs) =
-    sym (take-append-drop (27 * n) (take (27 * n + 27) bs)) ∙ (λ i. take-take (27 * n) (27 * n + 27) bs (omega arith) i ++ drop-take (27 * n) 27 bs i) in (
-      h.0 ++ (t ∷ []),
-      ap (λ k. take k bs) next ∙ cut ∙ (λ i. h.1 i ++ told i) ∙ sym (text_push h.0 t),
-      omega (arith, h.2, length_push h.0 t),
-    )
-
-module _ (bs : List ℕ) (n : ℕ) (h : Front bs n) (more : 27 * n < length bs) where
-  split_front : bs ≡ text_of h.0 ++ drop (27 * n) bs
-  split_front = sym (take-append-drop (27 * n) bs) ∙ ap (λ l. l ++ drop (27 * n) bs) h.1
-
-  -- The line after them is of no triangle.
-  pub fault_line : (r : Option Triangle) → LineRead (take 27 (drop (27 * n) bs)) r → is_some r ≡ false → FaultAt bs (n + 1)
-  fault_line None told is = record {
-    before = h.0;
-    rest = drop (27 * n) bs;
-    counted = omega (arith, h.2);
-    split = split_front;
-    some = omega (arith, length-drop (27 * n) bs);
-    astray = λ t over e. told t (ap (take 27) e ∙ take_at (line_of t) over 27 (length_line t));
-  }
-  fault_line (Some t) told is = absurd (true≢false is)
-
-  -- What is left after them is too short for a line.
-  pub fault_end : length bs < 27 * n + 27 → FaultAt bs (n + 1)
-  fault_end short = record {
-    before = h.0;
-    rest = drop (27 * n) bs;
-    counted = omega (arith, h.2);
-    split = split_front;
-    some = omega (arith, length-drop (27 * n) bs);
-    astray = λ t over e. omega (arith, length-drop (27 * n) bs, ap length e, length-append (line_of t) over, length_line t);
+module _ (bs left x more : List ℕ) (size n : ℕ) (h : Front bs left size n) (cut : left ≡ x ++ more) where
+  -- A line of a triangle goes before.
+  pub front_more : (r : Option Triangle) (next : ℕ) → LineRead x r → is_some r ≡ true → next ≡ size → Front bs more next (n + 1)
+  front_more None next told is same = absurd (false≢true is)
+  front_more (Some t) next told is same = record {
+    before = h.before ++ (t ∷ []);
+    width = same ∙ h.width;
+    counted = omega (arith, h.counted, length_push h.before t);
+    split =
+        h.split
+        ∙ ap (λ l. text_of h.before ++ l) (cut ∙ ap (λ l. l ++ more) told)
+        ∙ sym (append_assoc (text_of h.before) (line_of t) more)
+        ∙ ap (λ l. l ++ more) (sym (text_push h.before t));
   }
 
-pub front_all : (bs : List ℕ) (n : ℕ) → length bs ≤ 27 * n → Front bs n → (ts : List Triangle) × (bs ≡ text_of ts) × (n ≡ length ts)
-front_all bs n end h = (h.0, sym (take_all (27 * n) bs end) ∙ h.1, h.2)
+  -- A line of no triangle is the first at fault, and so is one that is too short.
+  pub front_fault : (r : Option Triangle) → LineRead x r → is_some r ≡ false → length x ≡ min size (length left) → 0 < length left → FaultAt bs (n + 1)
+  front_fault (Some t) told is long some = absurd (true≢false is)
+  front_fault None told is long some = record {
+    before = h.before;
+    rest = left;
+    counted = omega (arith, h.counted);
+    split = h.split;
+    some = some;
+    astray = λ t over e.
+        let whole : length x ≡ 27 = omega (arith, ap length e, length-append (line_of t) over, length_line t, h.width) in
+        told t (same_parts x more (line_of t) over 27 whole (length_line t) (sym cut ∙ e)).0;
+  }
+
+-- Where nothing is left, all of it is.
+pub front_all : (bs left : List ℕ) (size n : ℕ) → Front bs left size n → length left ≡ 0 → Counted bs (Ok (length bs / 27))
+front_all bs [] size n h none =
+    let whole = h.split ∙ append-nil (text_of h.before) in
+    (h.before, whole, omega (arith, ap length whole, length_text h.before))
+front_all bs (b ∷ left) size n h none = absurd (omega arith)

@@ -1,5 +1,5 @@
 -- What reading a text tells: reading the text of a list gives back its triangles, and a text at fault is the text of no list. Assumes nothing.
-use Rattle.std.proofs.Common.{◌≡◌, ℕ, ◌<◌, ◌≤◌, List, [], ◌∷◌, ◌++◌, length, drop, Ok, Err, Result, sym, refl, ap, ◌∙◌, subst, append_assoc, append-nil, arith, length-append}
+use Rattle.std.proofs.Common.{◌≡◌, ℕ, ◌/◌, ◌<◌, ◌≤◌, List, [], ◌∷◌, ◌++◌, length, drop, Ok, Err, Result, sym, ap, ◌∙◌, append_assoc, append-nil, arith, length-append}
 use Rattle.std.proofs.lemmas.List.{drop_at}
 use Rattle.tray.specs.declared.text.TextRefusal.{TextRefusal}
 use Rattle.tray.specs.declared.text.TextRefusal.TheVariants.{Line, NoRoom}
@@ -7,9 +7,9 @@ use Rattle.tray.specs.declared.triangle.Triangle.{Triangle}
 use Rattle.tray.specs.Holding.{Held, added_all}
 use Rattle.tray.specs.Lines.{line_of}
 use Rattle.tray.specs.Reading.{Counted, Read}
-use Rattle.tray.specs.Texts.{text_of, spelled_by, FaultAt}
+use Rattle.tray.specs.Texts.{list_of, text_of, spelled_by, FaultAt}
 use Rattle.tray.proofs.LineLaws.{length_line}
-use Rattle.tray.proofs.TextLaws.{spelled_text, same_text}
+use Rattle.tray.proofs.TextLaws.{length_text, spelled_text, same_text}
 
 after_line : (t : Triangle) (ts : List Triangle) (rest : List ℕ) → drop 27 (text_of (t ∷ ts) ++ rest) ≡ text_of ts ++ rest
 after_line t ts rest = ap (drop 27) (append_assoc (line_of t) (text_of ts) rest) ∙ drop_at (line_of t) (text_of ts ++ rest) 27 (length_line t)
@@ -26,22 +26,16 @@ pub fault_no_text : (bs : List ℕ) (line : ℕ) → FaultAt bs line → (ts : L
 fault_no_text bs line h ts e = no_text h.before h.rest h.some h.astray ts (sym h.split ∙ e)
 
 -- The list of a text is what its lines spell.
-pub spelled_whole : (bs : List ℕ) (n : ℕ) (ts : List Triangle) → bs ≡ text_of ts → n ≡ length ts → spelled_by n bs ≡ ts
-spelled_whole bs n ts e long = (λ i. spelled_by (long i) ((e ∙ sym (append-nil (text_of ts))) i)) ∙ spelled_text ts []
+pub list_whole : (bs : List ℕ) (ts : List Triangle) → bs ≡ text_of ts → list_of bs ≡ ts
+list_whole bs ts e =
+    let lines : length bs / 27 ≡ length ts = omega (arith, ap length e, length_text ts) in
+    (λ i. spelled_by (lines i) ((e ∙ sym (append-nil (text_of ts))) i)) ∙ spelled_text ts []
 
 -- Counting the text of a list gives its length.
 pub counted_back : (bs : List ℕ) (r : Result ℕ TextRefusal) → Counted bs r → (ts : List Triangle) → bs ≡ text_of ts → r ≡ Ok (length ts)
 counted_back bs (Ok n) h ts e = ap Ok (h.2 ∙ ap length (same_text h.0 ts (sym h.1 ∙ e)))
 counted_back bs (Err (Line k)) h ts e = absurd (fault_no_text bs k h ts e)
 counted_back bs (Err (NoRoom m f)) h ts e = absurd h
-
-refused_at : (bs : List ℕ) (h : Held) (x : TextRefusal) → Counted bs (Err x) → Read bs h (Err x) h
-refused_at bs h (Line n) c = (c, refl)
-refused_at bs h (NoRoom m f) c = absurd c
-
--- A refused count refuses the reading.
-pub read_refused : (bs : List ℕ) (h : Held) (fault told : TextRefusal) (r : Result ℕ TextRefusal) → Counted bs (Err fault) → r ≡ Err told → told ≡ fault → Read bs h r h
-read_refused bs h fault told r counted is same = subst (λ x. Read bs h x h) (sym (is ∙ ap Err same)) (refused_at bs h fault counted)
 
 -- Reading the text of a list gives back its triangles, if there is room for them.
 pub read_back : (bs : List ℕ) (before after : Held) (r : Result ℕ TextRefusal) → Read bs before r after → (ts : List Triangle) → bs ≡ text_of ts → length ts ≤ before.free → (r ≡ Ok (length ts)) × (after ≡ added_all before ts)

@@ -1,28 +1,13 @@
 -- What putting triangles into any tray, one after the other, leaves. Assumes nothing.
-use Rattle.std.proofs.Common.{◌≡◌, ℕ, ◌-◌, ◌<◌, ◌≤◌, true, false, List, [], ◌∷◌, ◌++◌, length, is_err, Ok, Err, Result, sym, ap, ◌∙◌, append_assoc, append-nil, arith, length-append}
+use Rattle.std.proofs.Common.{◌≡◌, ℕ, ◌-◌, ◌<◌, ◌≤◌, List, [], ◌∷◌, ◌++◌, length, Ok, Err, Result, sym, ap, ◌∙◌, append_assoc, append-nil, arith, length-append}
 use Rattle.std.proofs.lemmas.List.{length_push}
-use Rattle.std.proofs.lemmas.Bool.{true≢false, false≢true}
 use Rattle.tray.specs.declared.tray.Full.{Full}
 use Rattle.tray.specs.declared.triangle.Triangle.{Triangle}
-use Rattle.tray.specs.Holding.{Held, Lawful, Put, added, added_all, emptied, places}
-
--- A triangle is turned away where no place is free, and nothing changes.
-pub turned_away : (before after : Held) (t : Triangle) (r : Result (Unit {0}) Full) → is_err r ≡ true → before.free ≡ 0 → after ≡ before → Put before t r after
-turned_away before after t (Ok done) e none same = absurd (false≢true e)
-turned_away before after t (Err full) e none same = (none, same)
-
--- What an error tells, and what a free place makes of a put.
-pub was_full : (before after : Held) (t : Triangle) (r : Result (Unit {0}) Full) → true ≡ is_err r → Put before t r after → (before.free ≡ 0) × (after ≡ before)
-was_full before after t (Ok done) e h = absurd (true≢false e)
-was_full before after t (Err full) e h = h
+use Rattle.tray.specs.Holding.{Held, KeepsRest, Lawful, Put, added, added_all, emptied, places}
 
 pub went_in : (before after : Held) (t : Triangle) (r : Result (Unit {0}) Full) → 0 < before.free → Put before t r after → after ≡ added before t
 went_in before after t (Ok done) some h = h.1
 went_in before after t (Err full) some h = absurd (omega (arith, h.0))
-
-pub had_place : (before after : Held) (t : Triangle) (r : Result (Unit {0}) Full) → false ≡ is_err r → Put before t r after → 0 < before.free
-had_place before after t (Ok done) e h = h.0
-had_place before after t (Err full) e h = absurd (false≢true e)
 
 -- Putting in none, and one more.
 pub added_none : (h : Held) → h ≡ added_all h []
@@ -44,18 +29,14 @@ places_emptied h = omega arith
 pub record Laid {S : Type 0} (holds : S → Held) (keeps : ℕ → S → S → Type 0) (before : S) (ts : List Triangle) (after : S) : Type 0 where
   pub fit : length ts ≤ (holds before).free
   pub list : holds after ≡ added_all (holds before) ts
-  pub rest : keeps (length (holds after).list) before after
+  pub rest : KeepsRest holds keeps before after
 
 module _ {S : Type 0} {holds : S → Held} {keeps : ℕ → S → S → Type 0} (lawful : Lawful holds keeps) where
   pub laid_none : (s : S) → Laid holds keeps s [] s
   laid_none s = record { fit = omega arith; list = added_none (holds s); rest = lawful.stays _ s }
 
-  -- Where a place is free still, fewer went in than there were free places.
-  pub laid_room : (s m : S) (ts : List Triangle) → Laid holds keeps s ts m → 0 < (holds m).free → length ts < (holds s).free
-  laid_room s m ts h some = omega (arith, ap (λ x. x.free) h.list)
-
   -- Where fewer went in than there were free places, one more does.
-  pub laid_more : (s m e : S) (ts : List Triangle) (t : Triangle) (r : Result (Unit {0}) Full) → Laid holds keeps s ts m → length ts < (holds s).free → Put (holds m) t r (holds e) → keeps (length (holds e).list) m e → Laid holds keeps s (ts ++ (t ∷ [])) e
+  pub laid_more : (s m e : S) (ts : List Triangle) (t : Triangle) (r : Result (Unit {0}) Full) → Laid holds keeps s ts m → length ts < (holds s).free → Put (holds m) t r (holds e) → KeepsRest holds keeps m e → Laid holds keeps s (ts ++ (t ∷ [])) e
   laid_more s m e ts t r h room put kept =
       let free : 0 < (holds m).free = omega (arith, ap (λ x. x.free) h.list) in
       let went = went_in (holds m) (holds e) t r free put in
@@ -65,13 +46,3 @@ module _ {S : Type 0} {holds : S → Held} {keeps : ℕ → S → S → Type 0} 
         list = went ∙ ap (λ x. added x t) h.list ∙ added_more (holds s) ts t;
         rest = lawful.steps _ _ _ s m e longer (omega arith) h.rest kept;
       }
-
-  -- Where a triangle is turned away, as many went in as there were free places.
-  pub laid_full : (s m e : S) (ts : List Triangle) (t : Triangle) (r : Result (Unit {0}) Full) → Laid holds keeps s ts m → true ≡ is_err r → Put (holds m) t r (holds e) → keeps (length (holds e).list) m e → (length ts ≡ (holds s).free) × Laid holds keeps s ts e
-  laid_full s m e ts t r h err put kept =
-      let full = was_full (holds m) (holds e) t r err put in
-      let none : (holds s).free - length ts ≡ 0 = sym (ap (λ x. x.free) h.list) ∙ full.0 in
-      let longer : length (holds m).list ≤ length (holds e).list = omega (arith, ap (λ x. length x.list) full.1) in (
-        omega (arith, none, h.fit),
-        record { fit = h.fit; list = full.1 ∙ h.list; rest = lawful.steps _ _ _ s m e longer (omega arith) h.rest kept },
-      )

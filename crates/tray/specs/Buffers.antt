@@ -26,7 +26,7 @@ past m k bs cs le e =
 -- Its places fit a machine word, since its bytes do.
 pub text_lawful : Lawful text_holds TextKeeps
 text_lawful = record {
-  fits = λ s. omega (arith, s.within, s.bytes.ok, s.bytes.small, spelled_few s.held (bytes_of s));
+  fits = λ s. omega (arith, s.spells.within, s.bytes.ok, s.bytes.small, spelled_few s.held (bytes_of s));
   stays = λ n s. (refl, refl);
   steps = λ m n k s t u p q h j. (
     j.0 ∙ h.0,

@@ -34,6 +34,10 @@ abbrev pub Put : Held → Triangle → Result (Unit {0}) Full → Held → Type 
 Put before t (Ok done) after = (0 < before.free) × (after ≡ added before t)
 Put before t (Err full) after = (before.free ≡ 0) × (after ≡ before)
 
+-- Whatever a tray stands over past the triangles that it holds stays as it was.
+abbrev pub KeepsRest : {S : Type 0} → (S → Held) → (ℕ → S → S → Type 0) → S → S → Type 0
+KeepsRest holds keeps before after = keeps (length (holds after).list) before after
+
 -- What every tray owes besides: its places fit a machine word; and that all past some of its places stays as it was holds of what
 -- does nothing, and of two steps in a row if it holds of each.
 pub record Lawful {S : Type 0} (holds : S → Held) (keeps : ℕ → S → S → Type 0) : Type 0 where

@@ -1,5 +1,5 @@
 -- The text of a list of triangles: their lines, one after the other. Assumes nothing.
-use Rattle.std.specs.Prelude.{◌≡◌, ℕ, zero, suc, ◌+◌, ◌<◌, ◌≤◌, List, [], ◌++◌, length, take, drop, Some, None, Option, ◌≢◌}
+use Rattle.std.specs.Prelude.{◌≡◌, ℕ, zero, suc, ◌+◌, ◌*◌, ◌/◌, ◌<◌, ◌≤◌, List, [], ◌++◌, length, take, drop, Some, None, Option, ◌≢◌}
 use Rattle.std.proofs.Common.{arith, length-append}
 use Rattle.std.specs.Option.{option_to_list}
 use Rattle.std.specs.List.{flat_map}
@@ -14,6 +14,16 @@ text_of ts = flat_map line_of ts
 abbrev pub spelled_by : ℕ → List ℕ → List Triangle
 spelled_by zero bs = []
 spelled_by (suc n) bs = option_to_list (spelled (take 27 bs)) ++ spelled_by n (drop 27 bs)
+
+-- The triangles that the whole lines of the bytes spell.
+abbrev pub list_of : List ℕ → List Triangle
+list_of bs = spelled_by (length bs / 27) bs
+
+-- The first n lines of the bytes are the text of as many triangles.
+pub record Spells (bs : List ℕ) (n : ℕ) : Type 0 where
+  pub within : 27 * n ≤ length bs
+  pub count : length (spelled_by n bs) ≡ n
+  pub text : text_of (spelled_by n bs) ≡ take (27 * n) bs
 
 few : {X : Type 0} (o : Option X) → length (option_to_list o) ≤ 1
 few None = omega arith

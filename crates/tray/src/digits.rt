@@ -17,31 +17,15 @@ pub fn eight_digits(number: u64) -> Option<[u8; 8]>
     Some(bytes)
 }
 
-// Writes the last digits of a number over the bytes, as many as there are bytes.
+// Writes the last digits of a number over the bytes, as many as there are bytes: the last of them, and then the others over the bytes before.
+#[tactic(auto, using(crate::proofs::Decimals::digits_more, crate::proofs::Decimals::digits_none))]
 pub(crate) fn write_digits(bytes: &mut [u8], number: u64)
     ensures { bytes.new ≡ digits (length bytes.old) number }
 {
-    let mut rest = number;
-    for i in (0..bytes.len()).rev() {
-        bytes[i] = last_digit(rest);
-        rest /= 10;
-    }
-}
-
-// The last digit of a number, as a byte.
-fn last_digit(number: u64) -> u8
-    ensures { result ≡ 48 + number % 10 }
-{
-    b'0' + (number % 10) as u8
-}
-
-// What a byte counts as a digit; none for a byte that is no digit.
-fn digit_value(byte: u8) -> Option<u32>
-    ensures { MatchOption result ((48 ≤ byte → byte ≤ 57 → ⊥)) (λ d. (d < 10) × (byte ≡ 48 + d)) }
-{
-    match byte {
-        b'0'..=b'9' => Some((byte - b'0') as u32),
-        _ => None,
+    // From the back, by a call: a loop over `iter_mut().rev()` says nothing of what the bytes end as.
+    if let Some((last, front)) = bytes.split_last_mut() {
+        *last = b'0' + (number % 10) as u8;
+        write_digits(front, number / 10);
     }
 }
 
@@ -54,8 +38,8 @@ pub fn read_digits(bytes: &[u8]) -> Option<u32>
         return None;
     }
     let mut number = 0;
-    for byte in bytes {
-        number = 10 * number + digit_value(*byte)?;
+    for &byte in bytes {
+        number = 10 * number + char::from(byte).to_digit(10)?;
     }
     Some(number)
 }

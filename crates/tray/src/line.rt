@@ -19,24 +19,16 @@ enum Mark {
     LineFeed,
 }
 
-impl Mark {
-    // The byte of the mark.
-    fn byte(self) -> u8
-        ensures { result ≡ mark_byte self }
-    {
-        match self {
+// The byte of a mark.
+impl From<Mark> for u8 {
+    ghost from_gives = { λ mark byte. byte ≡ mark_byte mark };
+
+    fn from(mark: Mark) -> u8 {
+        match mark {
             Mark::Comma => b',',
             Mark::LineFeed => b'\n',
         }
     }
-}
-
-// Where the line of place n begins.
-fn line_start(n: usize) -> usize
-    requires { 27 * n + 27 < 2 ^ 64 }
-    ensures { result ≡ 27 * n }
-{
-    LINE * n
 }
 
 // Writes the line of a triangle into place n, by lending the 27 bytes from 27 n on to the line writer; refused, with no change, where the
@@ -47,51 +39,56 @@ pub fn write_line_at(bytes: &mut [u8], n: usize, triangle: Triangle) -> Result<(
     if n >= bytes.len() / LINE {
         return Err(Full);
     }
-    let start = line_start(n);
+    // By range: `chunks_exact_mut` and `as_chunks_mut` say nothing of what the bytes end as.
+    let start = LINE * n;
     write_line(&mut bytes[start..start + LINE], triangle);
     Ok(())
 }
 
 // Writes the line of a triangle over 27 bytes.
+#[tactic(auto, unfolding(crate::specs::Lines::line_of))]
 fn write_line(line: &mut [u8], triangle: Triangle)
     requires { length line.old ≡ 27 }
     ensures { line.new ≡ line_of triangle }
 {
-    write_cell(&mut line[0..9], triangle.first(), Mark::Comma);
-    write_cell(&mut line[9..18], triangle.second(), Mark::Comma);
-    write_cell(&mut line[18..27], triangle.third(), Mark::LineFeed);
+    let (one, rest) = line.split_at_mut(CELL);
+    let (two, three) = rest.split_at_mut(CELL);
+    write_cell(one, triangle.first(), Mark::Comma);
+    write_cell(two, triangle.second(), Mark::Comma);
+    write_cell(three, triangle.third(), Mark::LineFeed);
 }
 
 // Writes a number in eight digits over 9 bytes, and the mark after it.
+#[tactic(auto, unfolding(crate::specs::Lines::cell))]
 fn write_cell(bytes: &mut [u8], number: u32, mark: Mark)
     requires { length bytes.old ≡ 9 }
     ensures { bytes.new ≡ cell number (mark_byte mark) }
 {
-    write_digits(&mut bytes[0..8], number as u64);
-    bytes[8] = mark.byte();
+    if let Some((last, digits)) = bytes.split_last_mut() {
+        write_digits(digits, number.into());
+        *last = mark.into();
+    }
 }
 
 // The triangle whose line stands in place n; none where the 27 bytes from 27 n on, or fewer at the end, are the line of no triangle.
+#[tactic(auto, using(crate::proofs::LineReads::read_past, crate::proofs::LineReads::chunk_at))]
 pub fn read_line_at(bytes: &[u8], n: usize) -> Option<Triangle>
     ensures { LineRead (take 27 (drop (27 * n) bytes.now)) result }
 {
-    if n >= bytes.len() / LINE {
-        return None;
-    }
-    let start = line_start(n);
-    read_line(&bytes[start..start + LINE])
+    let (lines, _) = bytes.as_chunks::<LINE>();
+    read_line(lines.get(n)?)
 }
 
 // The triangle whose line these bytes are; none where they are the line of no triangle.
+#[tactic(auto, using(crate::proofs::LineLaws::length_line))]
 pub fn read_line(line: &[u8]) -> Option<Triangle>
     ensures { LineRead line.now result }
 {
-    if line.len() != LINE {
-        return None;
-    }
-    let first = read_cell(&line[0..9], Mark::Comma)?;
-    let second = read_cell(&line[9..18], Mark::Comma)?;
-    let third = read_cell(&line[18..27], Mark::LineFeed)?;
+    let (one, rest) = line.split_at_checked(CELL)?;
+    let (two, three) = rest.split_at_checked(CELL)?;
+    let first = read_cell(one, Mark::Comma)?;
+    let second = read_cell(two, Mark::Comma)?;
+    let third = read_cell(three, Mark::LineFeed)?;
     Triangle::new(first, second, third).ok()
 }
 
@@ -99,8 +96,5 @@ pub fn read_line(line: &[u8]) -> Option<Triangle>
 fn read_cell(bytes: &[u8], mark: Mark) -> Option<u32>
     ensures { MatchOption result ((n : ℕ) → n < 100000000 → bytes.now ≢ cell n (mark_byte mark)) (λ n. (n < 100000000) × (bytes.now ≡ cell n (mark_byte mark))) }
 {
-    if bytes.len() != CELL || bytes[8] != mark.byte() {
-        return None;
-    }
-    read_digits(&bytes[0..8])
+    read_digits(bytes.strip_suffix(&[mark.into()])?)
 }

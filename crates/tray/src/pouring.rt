@@ -1,6 +1,6 @@
 // Pouring one tray into another.
 ghost use Rattle.std.specs.Prelude.{◌≡◌, min, length, take};
-ghost use Rattle.tray.specs.Holding.{added_all};
+ghost use Rattle.tray.specs.Holding.{KeepsRest, added_all};
 
 use crate::tray::Tray;
 
@@ -9,16 +9,17 @@ use crate::tray::Tray;
 pub fn pour<S: Tray, T: Tray>(from: &S, into: &mut T) -> usize
     ensures count { result ≡ min (length (S.Tray.holds from.now).list) (T.Tray.holds into.old).free }
     ensures poured { T.Tray.holds into.new ≡ added_all (T.Tray.holds into.old) (take result (S.Tray.holds from.now).list) }
-    ensures rest { T.Tray.keeps (length (T.Tray.holds into.new).list) into.old into.new }
+    ensures rest { KeepsRest T.Tray.holds T.Tray.keeps into.old into.new }
 {
     let held = from.held();
+    // By place: the trait tells its triangles by place, and a `while let` over `nth` would count by hand.
     for n in 0..held {
         let Some(triangle) = from.nth(n) else {
             return n;
         };
-        if into.put(triangle).is_err() {
+        let Ok(()) = into.put(triangle) else {
             return n;
-        }
+        };
     }
     held
 }

@@ -9,6 +9,7 @@ pub mod calls;
 #[derive(Drop)]
 pub struct RecordTray {
     list: Vec<Triangle>,
+    // A limit and no length: the list may have memory for more.
     places: usize,
     ghost within: { vec_len list ≤ places },
     ghost reserved: { places ≤ vec_capacity list },

@@ -22,10 +22,10 @@ fn refused_triangles(rt: HostRuntime) -> Result<(), Fail> {
         (0, 1, 50_331_648),
     ];
     for (first, second, third) in refused {
-        match Triangle::new(first, second, third) {
-            Ok(_) => return Err(Fail::new("made a triangle")),
-            Err(refusal) => assert_eq!(rt; refusal.number(), 19),
-        }
+        assert_eq!(rt;
+            Triangle::new(first, second, third).map_err(u8::from),
+            Err(19)
+        );
     }
     assert_eq!(rt; Triangle::new(50_331_647, 0, 1)?.first(), 50_331_647);
     Ok(())
@@ -73,6 +73,7 @@ fn each_byte_damaged(rt: HostRuntime) -> Result<(), Fail> {
     let list = [Triangle::new(36, 14, 31)?, Triangle::new(39, 31, 14)?];
     let mut bytes = [0u8; 54];
     assert_eq!(rt; text::write(&list, &mut bytes), Ok(54));
+    // By index: each place in turn is that of the damaged byte.
     for i in 0..54usize {
         let mut damaged = bytes;
         damaged[i] = b'x';

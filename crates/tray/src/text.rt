@@ -1,13 +1,16 @@
 // The text of a list of triangles: their lines, one after the other.
-ghost use Rattle.std.specs.Prelude.{◌≡◌, ◌*◌, ◌≤◌, List, length, Ok};
+ghost use Rattle.std.specs.Prelude.{◌≡◌, ◌≤◌, List, length, Ok, Some};
 ghost use Rattle.tray.specs.declared.triangle.Triangle.{Triangle};
-ghost use Rattle.tray.specs.Holding.{added_all};
+ghost use Rattle.tray.specs.Holding.{KeepsRest, added_all};
 ghost use Rattle.tray.specs.Reading.{Counted, Read, Written};
-ghost use Rattle.tray.specs.Texts.{spelled_by, text_of};
+ghost use Rattle.tray.specs.Refusals.{text_refused_text};
+ghost use Rattle.tray.specs.Texts.{list_of, text_of};
 
-use crate::line::{LINE, read_line_at, write_line_at};
+use crate::line::{LINE, read_line, write_line_at};
 use crate::tray::Tray;
 use crate::triangle::Triangle;
+use std::error::Error;
+use std::fmt;
 
 // Why a list was not written, or a text not read.
 #[derive(Clone, Copy, PartialEq, Eq, Debug)]
@@ -17,6 +20,21 @@ pub enum TextRefusal {
     // There are more triangles than free places for them.
     NoRoom { triangles: usize, free: usize },
 }
+
+impl fmt::Display for TextRefusal {
+    ghost output = { λ refusal. Some (text_refused_text refusal) };
+
+    fn fmt<W: fmt::Write>(&self, f: &mut fmt::Formatter<W>) -> fmt::Result {
+        match *self {
+            TextRefusal::Line(line) => write!(f, "line {line} is the line of no triangle"),
+            TextRefusal::NoRoom { triangles, free } => {
+                write!(f, "{triangles} triangles want a place and {free} are free")
+            }
+        }
+    }
+}
+
+impl Error for TextRefusal {}
 
 // Writes the text of a list over the front of the bytes, and answers how many bytes that were; refused, with no change, where the bytes
 // have fewer places than the list has triangles.
@@ -28,8 +46,9 @@ pub fn write(list: &[Triangle], bytes: &mut [u8]) -> Result<usize, TextRefusal>
     if triangles > free {
         return Err(TextRefusal::NoRoom { triangles, free });
     }
-    for n in 0..triangles {
-        let _ = write_line_at(bytes, n, list[n]);
+    // By place: a loop over `chunks_exact_mut` says nothing of what the bytes end as.
+    for (n, triangle) in list.iter().enumerate() {
+        let _ = write_line_at(bytes, n, *triangle);
     }
     Ok(LINE * triangles)
 }
@@ -39,44 +58,41 @@ pub fn count(text: &[u8]) -> Result<usize, TextRefusal>
     ensures told { Counted text.now result }
     ensures back { (ts : List Triangle) → text.now ≡ text_of ts → result ≡ Ok (length ts) }
 {
-    let lines = text.len() / LINE;
-    for n in 0..lines {
-        if read_line_at(text, n).is_none() {
+    for (n, line) in text.chunks(LINE).enumerate() {
+        if read_line(line).is_none() {
             return Err(TextRefusal::Line(n + 1));
         }
     }
-    if LINE * lines < text.len() {
-        return Err(TextRefusal::Line(lines + 1));
-    }
-    Ok(lines)
+    Ok(text.len() / LINE)
 }
 
 // Puts the triangles of a text into a tray, in order, and answers how many; refused, with no change, where a line is at fault or the tray
 // has fewer free places than there are triangles.
+#[tactic(auto, using(crate::proofs::TextReads::list_whole, crate::proofs::TextReads::read_back))]
 pub fn read<T: Tray>(text: &[u8], into: &mut T) -> Result<usize, TextRefusal>
     ensures told { Read text.now (T.Tray.holds into.old) result (T.Tray.holds into.new) }
     ensures back { (ts : List Triangle) → text.now ≡ text_of ts → length ts ≤ (T.Tray.holds into.old).free → (result ≡ Ok (length ts)) × (T.Tray.holds into.new ≡ added_all (T.Tray.holds into.old) ts) }
-    ensures rest { T.Tray.keeps (length (T.Tray.holds into.new).list) into.old into.new }
+    ensures rest { KeepsRest T.Tray.holds T.Tray.keeps into.old into.new }
 {
     let triangles = count(text)?;
     let free = into.free();
     if triangles > free {
         return Err(TextRefusal::NoRoom { triangles, free });
     }
-    put_lines(text, triangles, into);
+    put_lines(text, into);
     Ok(triangles)
 }
 
-// Puts the triangles of a text of so many lines into a tray that has room for them.
-fn put_lines<T: Tray>(text: &[u8], lines: usize, into: &mut T)
-    requires long { length text.now ≡ 27 * lines }
-    requires spelled { text.now ≡ text_of (spelled_by lines text.now) }
-    requires room { lines ≤ (T.Tray.holds into.old).free }
-    ensures list { T.Tray.holds into.new ≡ added_all (T.Tray.holds into.old) (spelled_by lines text.now) }
-    ensures rest { T.Tray.keeps (length (T.Tray.holds into.new).list) into.old into.new }
+// Puts the triangles of the text of a list into a tray that has room for them.
+fn put_lines<T: Tray>(text: &[u8], into: &mut T)
+    requires spelled { text.now ≡ text_of (list_of text.now) }
+    requires room { length (list_of text.now) ≤ (T.Tray.holds into.old).free }
+    ensures added { T.Tray.holds into.new ≡ added_all (T.Tray.holds into.old) (list_of text.now) }
+    ensures rest { KeepsRest T.Tray.holds T.Tray.keeps into.old into.new }
 {
-    for n in 0..lines {
-        if let Some(triangle) = read_line_at(text, n) {
+    // With `if let`: antt refused the goals of a loop over `map_while(read_line)` here.
+    for line in text.chunks_exact(LINE) {
+        if let Some(triangle) = read_line(line) {
             let _ = into.put(triangle);
         }
     }

@@ -1,12 +1,24 @@
 // What a tray is: a holder of triangles, with places that are in use or free.
-ghost use Rattle.std.specs.Prelude.{◌≡◌, ℕ, length};
-ghost use Rattle.tray.specs.Holding.{Held, Lawful, Nth, Put, emptied};
+ghost use Rattle.std.specs.Prelude.{◌≡◌, ℕ, length, Some, codes};
+ghost use Rattle.tray.specs.Holding.{Held, KeepsRest, Lawful, Nth, Put, emptied};
 
 use crate::triangle::Triangle;
+use std::error::Error;
+use std::fmt;
 
 // The answer of a tray with no free place.
 #[derive(Clone, Copy, PartialEq, Eq, Debug)]
 pub struct Full;
+
+impl fmt::Display for Full {
+    ghost output = { λ _. Some (codes "the tray is full") };
+
+    fn fmt<W: fmt::Write>(&self, f: &mut fmt::Formatter<W>) -> fmt::Result {
+        write!(f, "the tray is full")
+    }
+}
+
+impl Error for Full {}
 
 // A holder of triangles in the order in which they came. Its meaning is the list that it holds and its number of free places.
 pub trait Tray {
@@ -34,7 +46,7 @@ pub trait Tray {
     // Puts a triangle at the end, into a free place; turned away, with no change, only where no place is free.
     fn put(&mut self, triangle: Triangle) -> Result<(), Full>
         ensures put { Put (holds self.old) triangle result (holds self.new) }
-        ensures rest { keeps (length (holds self.new).list) self.old self.new };
+        ensures rest { KeepsRest holds keeps self.old self.new };
 
     // Makes the list empty; its places are free again, besides those that were.
     fn empty(&mut self)

@@ -1,6 +1,7 @@
 -- What a list of shapes reads, shape by shape. Assumes nothing.
-use Rattle.std.specs.Prelude.{◌≡◌, ℕ, zero, suc, ◌<◌, ◌≤◌, true, false, ◌&&◌, List, [], ◌∷◌, length, get_or, nat_le, slice_index_or, refl}
-use Rattle.std.proofs.Common.{ap, ◌∙◌, inl, inr, suc-le-suc, zero-le, le_of_suc-le-suc, not-suc-le-zero}
+use Rattle.std.specs.Prelude.{◌≡◌, ℕ, ◌<◌, ◌≤◌, true, false, ◌&&◌, List, [], ◌∷◌, length, get_or, nat_le, slice_index_or, refl}
+use Rattle.std.proofs.Common.{ap, cond, inl, inr, zero-le}
+use Rattle.std.proofs.lemmas.List.Recursion.{and_at, and_from_places, found_at, found_nowhere}
 use Rattle.std.proofs.lemmas.Bool.{le-leb, leb-true, and_parts, and_from, cases_Bool}
 use Rattle.grid.specs.declared.voxel.Voxel.{Voxel}
 use Rattle.scan.specs.Phantoms.{Covers, covers, between, phantom_reads, first_or, blank, FirstCounts, ShapeFits, ShapesFit, CornerFits, corner_fits, shape_fits, all_fit, shapes_fit}
@@ -64,15 +65,11 @@ true_shape s h =
 -- Each shape of a list.
 
 pub all_true : (shapes : List Shape) → all_fit shapes ≡ true → (k : ℕ) → k < length shapes → ShapeFits (slice_index_or shapes k blank)
-all_true [] e k h = absurd (not-suc-le-zero h)
-all_true (s ∷ shapes) e zero h = shape_true s (and_parts (shape_fits s) (all_fit shapes) e).0
-all_true (s ∷ shapes) e (suc k) h = all_true shapes (and_parts (shape_fits s) (all_fit shapes) e).1 k (le_of_suc-le-suc h)
+all_true shapes e k h = shape_true (slice_index_or shapes k blank) (and_at all_fit shape_fits refl (λ _ _. refl) shapes k blank h e)
 
 pub true_all : (shapes : List Shape) → ((k : ℕ) → k < length shapes → ShapeFits (slice_index_or shapes k blank)) → all_fit shapes ≡ true
-true_all [] each = refl
-true_all (s ∷ shapes) each =
-    and_from (shape_fits s) (all_fit shapes) (true_shape s (each zero (suc-le-suc zero-le)))
-    (true_all shapes (λ k h. each (suc k) (suc-le-suc h)))
+true_all shapes each =
+    and_from_places all_fit shape_fits refl (λ _ _. refl) shapes blank (λ k h. true_shape (slice_index_or shapes k blank) (each k h))
 
 pub shapes_true : (shapes : List Shape) → shapes_fit shapes ≡ true → ShapesFit shapes
 shapes_true shapes e =
@@ -94,18 +91,21 @@ reads_here s shapes v h = ap (λ b. first_or b s.value (phantom_reads shapes v))
 pub reads_later : (s : Shape) (shapes : List Shape) (v : Voxel) → (Covers s v → ⊥) → phantom_reads (s ∷ shapes) v ≡ phantom_reads shapes v
 reads_later s shapes v none = ap (λ b. first_or b s.value (phantom_reads shapes v)) (false_covers s v none)
 
+-- a shape that covers a voxel gives its value, and one that does not leaves it to the others
+reads_one : (v : Voxel) (s : Shape) (shapes : List Shape) → phantom_reads (s ∷ shapes) v ≡ cond (covers s v) s.value (phantom_reads shapes v)
+reads_one v s shapes =
+    elim (covers s v) as (λ b. first_or b s.value (phantom_reads shapes v) ≡ cond b s.value (phantom_reads shapes v)) [ true ↦ refl | false ↦ refl ]
+
 pub first_reads : (shapes : List Shape) (v : Voxel) (k : ℕ) → k < length shapes → Covers (slice_index_or shapes k blank) v
     → ((j : ℕ) → j < k → Covers (slice_index_or shapes j blank) v → ⊥) → phantom_reads shapes v ≡ (get_or shapes k blank).value
-first_reads [] v k h here before = absurd (not-suc-le-zero h)
-first_reads (s ∷ shapes) v zero h here before = reads_here s shapes v here
-first_reads (s ∷ shapes) v (suc k) h here before =
-    reads_later s shapes v (before zero (suc-le-suc zero-le))
-    ∙ first_reads shapes v k (le_of_suc-le-suc h) here (λ j l. before (suc j) (suc-le-suc l))
+first_reads shapes v k h here before =
+    found_at (λ l. phantom_reads l v) (λ s. covers s v) (λ s. s.value) 0 refl (reads_one v) shapes k blank h
+    (λ j l. false_covers (slice_index_or shapes j blank) v (before j l)) (true_covers (slice_index_or shapes k blank) v here)
 
 pub none_reads : (shapes : List Shape) (v : Voxel) → ((k : ℕ) → k < length shapes → Covers (slice_index_or shapes k blank) v → ⊥) → phantom_reads shapes v ≡ 0
-none_reads [] v none = refl
-none_reads (s ∷ shapes) v none =
-    reads_later s shapes v (none zero (suc-le-suc zero-le)) ∙ none_reads shapes v (λ k h. none (suc k) (suc-le-suc h))
+none_reads shapes v none =
+    found_nowhere (λ l. phantom_reads l v) (λ s. covers s v) (λ s. s.value) 0 refl (reads_one v) shapes blank
+    (λ k h. false_covers (slice_index_or shapes k blank) v (none k h))
 
 -- the first shape that covers a voxel counts
 pub first_counts : (shapes : List Shape) (v : Voxel) → FirstCounts shapes v (phantom_reads shapes v)

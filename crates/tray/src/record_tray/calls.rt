@@ -48,10 +48,7 @@ impl Tray for RecordTray {
     }
 
     fn nth(&self, n: usize) -> Option<Triangle> {
-        if n >= self.list.len() {
-            return None;
-        }
-        Some(self.list[n])
+        self.list.get(n).copied()
     }
 
     fn put(&mut self, triangle: Triangle) -> Result<(), Full> {

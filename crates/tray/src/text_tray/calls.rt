@@ -2,7 +2,7 @@
 ghost use Rattle.std.specs.Prelude.{◌≡◌, ◌*◌, ◌/◌, [], length, take, drop, MatchResult};
 ghost use Rattle.tray.specs.declared.text_tray.TextTray.{TextTray};
 ghost use Rattle.tray.specs.Buffers.{bytes_of, text_holds, TextKeeps, text_lawful};
-ghost use Rattle.tray.specs.Holding.{Put, emptied};
+ghost use Rattle.tray.specs.Holding.{KeepsRest, Put, emptied};
 ghost use Rattle.tray.specs.Lines.{with_line};
 ghost use Rattle.tray.specs.Texts.{text_of};
 
@@ -25,7 +25,7 @@ impl TextTray {
         ensures { result.now ≡ text_of (text_holds self.now).list }
     {
         let end = LINE * self.held;
-        &self.bytes.as_slice()[0..end]
+        &self.bytes[..end]
     }
 
     // Ends the tray, and hands the bytes back, whole: in front stands the text of what it held, and then what stood there at any
@@ -33,7 +33,7 @@ impl TextTray {
     pub fn into_bytes(self) -> Vec<u8>
         ensures bytes { result.items ≡ bytes_of self }
         ensures text { take (27 * length (text_holds self).list) result.items ≡ text_of (text_holds self).list }
-        ensures given { (before : TextTray) → TextKeeps (length (text_holds self).list) before self → drop (27 * length (text_holds self).list) result.items ≡ drop (27 * length (text_holds self).list) (bytes_of before) }
+        ensures given { (before : TextTray) → KeepsRest text_holds TextKeeps before self → drop (27 * length (text_holds self).list) result.items ≡ drop (27 * length (text_holds self).list) (bytes_of before) }
     {
         let TextTray { bytes, held: _ } = self;
         bytes
@@ -55,17 +55,15 @@ impl Tray for TextTray {
         self.held
     }
 
+    #[tactic(auto, using(crate::proofs::TextLaws::text_nth))]
     fn nth(&self, n: usize) -> Option<Triangle> {
-        if n >= self.held {
-            return None;
-        }
-        read_line_at(self.bytes.as_slice(), n)
+        read_line_at(self.text(), n)
     }
 
     // Writes the line into the next place, and changes no other byte: the buffer goes whole to the call that lends 27 bytes of it on.
     fn put(&mut self, triangle: Triangle) -> Result<(), Full>
         ensures put { Put (text_holds self.old) triangle result (text_holds self.new) }
-        ensures rest { TextKeeps (length (text_holds self.new).list) self.old self.new }
+        ensures rest { KeepsRest text_holds TextKeeps self.old self.new }
         ensures bytes { MatchResult result (λ _. bytes_of self.new ≡ with_line (bytes_of self.old) (length (text_holds self.old).list) triangle) (λ _. bytes_of self.new ≡ bytes_of self.old) }
     {
         let n = self.held;

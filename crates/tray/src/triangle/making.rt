@@ -1,9 +1,11 @@
 // Making a triangle, asking for its corners, and the refusal.
-ghost use Rattle.std.specs.Prelude.{◌≡◌, MatchResult};
+ghost use Rattle.std.specs.Prelude.{◌≡◌, MatchResult, Some};
 ghost use Rattle.tray.specs.Corners.{Corners};
-ghost use Rattle.tray.specs.Refusals.{refusal_number};
+ghost use Rattle.tray.specs.Refusals.{refusal_number, refused_text};
 
 use crate::triangle::Triangle;
+use std::error::Error;
+use std::fmt;
 
 // A link number is below this.
 const LINKS: u32 = 50_331_648;
@@ -15,16 +17,26 @@ pub enum TriangleRefusal {
     EqualOrTooLarge,
 }
 
-impl TriangleRefusal {
-    // The number by which the refusal is told.
-    pub fn number(self) -> u8
-        ensures { result ≡ refusal_number self }
-    {
-        match self {
+// The number by which a refusal is told.
+impl From<TriangleRefusal> for u8 {
+    ghost from_gives = { λ refusal number. number ≡ refusal_number refusal };
+
+    fn from(refusal: TriangleRefusal) -> u8 {
+        match refusal {
             TriangleRefusal::EqualOrTooLarge => 19,
         }
     }
 }
+
+impl fmt::Display for TriangleRefusal {
+    ghost output = { λ refusal. Some (refused_text refusal) };
+
+    fn fmt<W: fmt::Write>(&self, f: &mut fmt::Formatter<W>) -> fmt::Result {
+        write!(f, "refused with {}", u8::from(*self))
+    }
+}
+
+impl Error for TriangleRefusal {}
 
 impl Triangle {
     // The triangle with these corners in this order; refused where two are equal or one is too large.

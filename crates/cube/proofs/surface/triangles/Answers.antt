@@ -4,10 +4,7 @@ use Rattle.cube.specs.Laws.{Lawful}
 use Rattle.cube.proofs.Lawful.{lawful}
 use Rattle.cube.proofs.surface.triangles.Goals as goal
 
-pub returns : goal.returns
-returns c =
+pub returns-clause-laws : goal.returns-clause-laws
+returns-clause-laws c =
     let k = kinds c.args.mask.0 in
-    record {
-      value = c.by_pair.ensures;
-      laws = subst (Lawful c.args.pair k) (sym c.by_pair.ensures) (lawful c.args.pair k);
-    }
+    subst (Lawful c.args.pair k) (sym c.by_pair.ensures) (lawful c.args.pair k)

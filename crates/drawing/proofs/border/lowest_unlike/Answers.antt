@@ -1,9 +1,13 @@
-use Rattle.std.proofs.Common.{ap, arith}
-use Rattle.grid.specs.Voxels.{count_of}
-use Rattle.scan.proofs.Rims.{number_below}
+use Rattle.grid.proofs.Numbered.{border_weaker}
+use Rattle.grid.specs.declared.voxel.Voxel.{Voxel}
+use Rattle.drawing.specs.Borders.{Unlike}
+use Rattle.drawing.proofs.Edges.{first_unlike}
 use Rattle.drawing.proofs.border.lowest_unlike.Goals as goal
 
 pub returns : goal.returns
 returns g c =
-    λ v border. c.loop-number.invariant v border
-    (omega (arith, number_below (g.S.Scan.means c.args.scan.now).sides v border.0, ap count_of c.sides-sides.ensures))
+    let m = g.S.Scan.means c.args.scan.now in
+    let t = c.args.test in
+    let sides = c.sides.result in
+    first_unlike t m c.args.kind sides c.first_on_border.result c.sides.ensures
+    (border_weaker sides c.first_on_border.result c.first_on_border.ensures (λ v r (told : Voxel × Unlike t m c.args.kind v r). told.1))

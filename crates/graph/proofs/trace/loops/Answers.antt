@@ -9,11 +9,6 @@ use Rattle.graph.proofs.Looped.{looped}
 use Rattle.graph.proofs.trace.loops.Goals as goal
 use Rattle.graph.proofs.trace.loops.Goals.{then-carries_corner+in_ok-corners+then-none_below+in_ok-push, then-carries_corner+in_ok-corners+else-none_below, else-carries_corner}
 
-pub loop-link-init : goal.loop-link-init
-loop-link-init c =
-    let k = kinds c.args.mask.0 in
-    ap (λ vs. map vec_items vs ++ loops_past k (graph c.args.s k) 0) c.new-found.ensures.items
-
 pub loop-link-preserved : goal.loop-link-preserved
 loop-link-preserved c =
     let k = kinds c.args.mask.0 in
@@ -40,9 +35,9 @@ loop-link-preserved c =
           read_on vec_items vec_items (loops_past k es (i + 1)) w.found-is refl (ap (λ ls. map vec_items found ++ ls) (sym next) ∙ c.loop-link.invariant)
     ]
 
-pub returns : goal.returns
-returns c =
+pub returns-clause-laws : goal.returns-clause-laws
+returns-clause-laws c =
     let k = kinds c.args.mask.0 in
     let es = graph c.args.s k in
     let all = past_all k es c.loop-link.link (map vec_items (vec_items c.loop-link.found)) c.loop-link-test.false c.loop-link.invariant in
-    record { value = all; laws = subst (Looped k) (sym all) (looped c.args.s k) }
+    subst (Looped k) (sym all) (looped c.args.s k)

@@ -9,5 +9,5 @@ use Rattle.graph.proofs.trace.loops.Given as goal
 abbrev pub invariant-loop-link : goal.invariant-loop-link
 invariant-loop-link l =
     let k = kinds l.mask.0 in
-    let es = graph l.s k in
+    let es = graph l.solid.connectedness k in
     map vec_items (vec_items l.found) ++ loops_past k es l.link ≡ loops_of k es

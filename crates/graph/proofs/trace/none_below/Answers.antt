@@ -1,20 +1,12 @@
-use Rattle.std.proofs.Common.{leb, sym, ap, ◌∙◌}
-use Rattle.std.proofs.lemmas.List.{drop_all}
-use Rattle.cube.specs.Lists.{every}
-use Rattle.graph.proofs.Trails.{below_here, not_here}
+use Rattle.std.proofs.Common.{leb, ◌∙◌, rules}
+use Rattle.std.proofs.lemmas.Iterator.{YieldsList-from_slice}
+use Rattle.std.proofs.lemmas.Iterator.Search.{all_from_yields_List}
+use borrow.Author.Tests.{tests}
+use Rattle.graph.proofs.Tests.{every_is}
 use Rattle.graph.proofs.trace.none_below.Goals as goal
-
-pub returns-then-corner-link : goal.returns-then-corner-link
-returns-then-corner-link c =
-    sym (below_here c.args.link c.args.corners.now c.loop-corner.corner-index c.loop-corner-test.true c.if-corner-link.true)
-    ∙ c.loop-corner.invariant
-
-pub loop-corner-preserved : goal.loop-corner-preserved
-loop-corner-preserved c =
-    not_here c.args.link c.args.corners.now c.loop-corner.corner-index c.loop-corner-test.true c.if-corner-link.false
-    ∙ c.loop-corner.invariant
 
 pub returns : goal.returns
 returns c =
-    sym (ap (every (leb c.args.link)) (drop_all c.loop-corner.corner-index c.args.corners.now c.loop-corner-test.false))
-    ∙ c.loop-corner.invariant
+    let test = leb c.args.link in
+    all_from_yields_List test _ _ _ c.all.ensures.ran (YieldsList-from_slice c.args.corners.now (search rules)) (λ x b q k. search (rules, tests))
+    ∙ every_is test c.args.corners.now

@@ -1,15 +1,19 @@
-use Rattle.std.proofs.Common.{sym, arith}
+use Rattle.std.proofs.Common.{◌≡◌, ℕ, ◌<◌, ◌≤◌, Bool, true, false, List, length, MatchBool, sym, arith, rules, tests}
+use Rattle.std.specs.List.{AllWithin, HoldsAt}
+use Rattle.std.proofs.lemmas.Iterator.{cases_from_all, YieldsList-from_slice}
+use Rattle.scan.specs.Phantoms.{ShapeFits, blank, shapes_fit}
 use Rattle.scan.specs.Laws.Painting.{true_shapes, false_shapes}
+use Rattle.scan.specs.declared.shape.Shape.{Shape}
 use Rattle.scan.proofs.painted.all_fit.Goals as goal
 
-pub returns-then-shapes-gt-MOST_SHAPES : goal.returns-then-shapes-gt-MOST_SHAPES
-returns-then-shapes-gt-MOST_SHAPES c =
-    sym (false_shapes c.args.shapes.now (λ fit. let few = fit.0 in omega arith))
+-- what a test of each shape tells of a list that is not too long
+all_told : (shapes : List Shape) (r : Bool) → length shapes ≤ 64
+    → MatchBool r (AllWithin ShapeFits shapes 0 (length shapes)) ((k : ℕ) × (k < length shapes) × HoldsAt (λ s. ShapeFits s → ⊥) shapes k)
+    → r ≡ shapes_fit shapes
+all_told shapes true few each = sym (true_shapes shapes (few, λ k h. each k blank (omega arith) h))
+all_told shapes false few some = sym (false_shapes shapes (λ fit. some.2 blank (fit.1 some.0 some.1)))
 
-pub returns-then-not-fits : goal.returns-then-not-fits
-returns-then-not-fits c =
-    sym (false_shapes c.args.shapes.now (λ fit. c.if-not-fits.ensures (fit.1 c.loop-shape.shape-index c.loop-shape-test.true)))
-
-pub returns : goal.returns
-returns c =
-    sym (true_shapes c.args.shapes.now (c.if-shapes-gt-MOST_SHAPES.false, λ k h. c.loop-shape.invariant k (omega arith)))
+pub returns-then-shapes-le-MOST_SHAPES : goal.returns-then-shapes-le-MOST_SHAPES
+returns-then-shapes-le-MOST_SHAPES c =
+    all_told c.args.shapes.now c.all.result c.if-shapes-le-MOST_SHAPES.true
+    (cases_from_all _ _ _ ShapeFits (λ s. ShapeFits s → ⊥) c.all.ensures.ran (YieldsList-from_slice c.args.shapes.now cc) (λ x q k. search (rules, tests)) (λ x q k. search (rules, tests)))

@@ -8,11 +8,11 @@ use Rattle.session.specs.Ways.{calls_of}
 use Rattle.session.proofs.running.run.Given as goal
 
 -- The calls passed are made, none is changed, and the trays are kept.
-abbrev pub invariant-loop-i : goal.invariant-loop-i
-invariant-loop-i g l =
+abbrev pub invariant-loop-entry : goal.invariant-loop-entry
+invariant-loop-entry g l =
     let m = g.S.Scan.means l.scan in
     let others = map g.O.Scan.means l.others in
     let holds = g.T.Tray.holds in
     (calls_of l.entries ≡ calls_of l.initial.entries)
-    × ((ts : List Triangle) × Runs m others (start (map holds l.initial.trays)) (take l.i l.entries) (world l.state (map holds l.trays) ts))
+    × ((ts : List Triangle) × Runs m others (start (map holds l.initial.trays)) (take l.entry-index l.entries) (world l.state (map holds l.trays) ts))
     × AllKept holds g.T.Tray.keeps l.initial.trays l.trays

@@ -1,4 +1,4 @@
-use Rattle.std.proofs.Common.{Ok, Err, refl, ap, inl}
+use Rattle.std.proofs.Common.{Ok, Err, Some, refl, ap, inl}
 use Rattle.session.specs.declared.call.Answer.TheVariants.{Closed}
 use Rattle.session.proofs.step.close.Goals as goal
 
@@ -11,7 +11,7 @@ returns-in-Ok c m others hs ts =
         found = c.in-Opened.is;
         result = Ok c.in-Ok.closed;
         law = c.in-Ok.ensures;
-        told = ap Closed c.report-report.ensures;
+        told = ap (λ r. Some (Closed (Ok r))) c.report-report.ensures;
         after = refl;
       },
     )

@@ -5,12 +5,9 @@ use Rattle.session.proofs.Keeping.{all_still, all_set, kept_by, draw_places}
 use Rattle.session.proofs.Stepping.{no_more, at_tray, drew}
 use Rattle.session.proofs.step.draw.Goals as goal
 
-pub returns-then-tray-trays : goal.returns-then-tray-trays
-returns-then-tray-trays g c =
-    record {
-      tries = ([], λ ts. inr (λ can. absurd (omega (arith, can.1, length-map c.args.trays.now g.T.Tray.holds, c.if-tray-trays.true)), refl, no_more _ _ ts));
-      rest = all_still g.T.Tray.lawful c.args.trays.now;
-    }
+pub returns-then-tray-trays-clause-tries : goal.returns-then-tray-trays-clause-tries
+returns-then-tray-trays-clause-tries g c =
+    ([], λ ts. inr (λ can. absurd (omega (arith, can.1, length-map c.args.trays.now g.T.Tray.holds, c.if-tray-trays.true)), refl, no_more _ _ ts))
 
 pub returns-in-Opened : goal.returns-in-Opened
 returns-in-Opened g c =
@@ -28,8 +25,8 @@ returns-in-Opened g c =
     let lt : t < length hs = omega (arith, length-map trays holds, c.if-tray-trays.false) in
     record {
       tries =
-          drew m c.args.budget t c.args.state hs _ d d' (holds x) (holds y) r c.draw_answer.result c.in-Opened.is
-          (at_tray holds trays t _ c.if-tray-trays.false) lt law c.draw_answer.ensures (map-set holds trays t y);
+          drew m c.args.budget t c.args.state hs _ d d' (holds x) (holds y) r _ c.in-Opened.is
+          (at_tray holds trays t _ c.if-tray-trays.false) lt law refl (map-set holds trays t y);
       rest =
           all_set g.T.Tray.lawful trays t c.index-trays-tray.result y c.if-tray-trays.false
           (kept_by g.T.Tray.lawful x y (draw_places m c.args.budget d d' (holds x) (holds y) r law) c.draw-result.ensures.rest);

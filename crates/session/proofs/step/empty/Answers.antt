@@ -1,19 +1,12 @@
-use Rattle.std.proofs.Common.{◌≡◌, ℕ, map, length, get_or, set, sym, refl, ap, ◌∙◌, subst, inl, inr, arith}
+use Rattle.std.proofs.Common.{◌≡◌, ℕ, map, length, get_or, set, sym, refl, ap, ◌∙◌, subst, inl, arith}
 use lib.ListN.{length-map}
 use Rattle.std.proofs.lemmas.List.{map-set}
 use Rattle.tray.specs.Holding.{emptied, places}
 use Rattle.tray.proofs.Trays.{places_emptied}
 use Rattle.session.specs.Steps.{world}
-use Rattle.session.proofs.Keeping.{all_still, all_set, kept_by}
+use Rattle.session.proofs.Keeping.{all_set, kept_by}
 use Rattle.session.proofs.Stepping.{at_tray}
 use Rattle.session.proofs.step.empty.Goals as goal
-
-pub returns-then-tray-trays : goal.returns-then-tray-trays
-returns-then-tray-trays g c =
-    record {
-      clears = λ m others ts. inr (λ can. absurd (omega (arith, can, length-map c.args.trays.now g.T.Tray.holds, c.if-tray-trays.true)), refl, refl);
-      rest = all_still g.T.Tray.lawful c.args.trays.now;
-    }
 
 pub returns : goal.returns
 returns g c =

@@ -1,16 +1,19 @@
-use Rattle.std.proofs.Common.{length, get_or, sym, ap, ◌∙◌}
-use Rattle.tray.specs.Lines.{mark_byte}
-use Rattle.tray.proofs.LineLaws.{length_cell}
-use Rattle.tray.proofs.LineReads.{cell_mark, cell_read}
+use Rattle.std.proofs.Common.{[], ◌∷◌, ◌++◌, None, Some, sym, ap, ◌∙◌}
+use Rattle.std.proofs.lemmas.Bool.Decides.{Decides-eqb}
+use Rattle.std.proofs.lemmas.Slice.Eq.{strip_suffix_is}
+use Rattle.tray.specs.Decimal.{digits}
+use Rattle.tray.specs.Lines.{cell, mark_byte}
+use Rattle.tray.proofs.LineReads.{cell_read}
 use Rattle.tray.proofs.line.read_cell.Goals as goal
-use Rattle.tray.proofs.line.read_cell.Goals.{then-bytes-ne-CELL-via-then-bytes-ne-CELL, then-bytes-ne-CELL-via-else-bytes-ne-CELL+then-bytes-byte}
 
-pub returns-then-bytes-ne-CELL : goal.returns-then-bytes-ne-CELL
-returns-then-bytes-ne-CELL c = λ n small e.
-    elim c.then-bytes-ne-CELL.branch [
-      | then-bytes-ne-CELL-via-then-bytes-ne-CELL w ↦ w.if-bytes-ne-CELL.true (ap length e ∙ length_cell n (mark_byte c.args.mark))
-      | then-bytes-ne-CELL-via-else-bytes-ne-CELL+then-bytes-byte w ↦ w.if-bytes-byte.true (ap (λ l. get_or l 8 0) e ∙ cell_mark n (mark_byte c.args.mark) ∙ sym w.byte.ensures)
-    ]
+pub returns-in_err-strip_suffix : goal.returns-in_err-strip_suffix
+unfolding cell
+returns-in_err-strip_suffix c =
+    let other = strip_suffix_is Decides-eqb c.args.bytes.now (c.into.result ∷ []) None c.in_err-strip_suffix.ensures.cases in
+    rw c.from_residual.ensures (λ n small e. other (digits 8 n) (e ∙ ap (λ b. digits 8 n ++ (b ∷ [])) (sym c.into.ensures)))
 
 pub returns : goal.returns
-returns c = cell_read c.read_digits.result c.args.bytes.now (mark_byte c.args.mark) c.if-bytes-ne-CELL.false (c.if-bytes-byte.false ∙ c.byte.ensures) c.read_digits.ensures.told
+returns c =
+    let ds = c.in_ok-strip_suffix.field-0 in
+    let cut = strip_suffix_is Decides-eqb c.args.bytes.now (c.into.result ∷ []) (Some ds) c.in_ok-strip_suffix.ensures.cases in
+    cell_read c.read_digits.result c.args.bytes.now ds.now (mark_byte c.args.mark) (cut ∙ ap (λ b. ds.now ++ (b ∷ [])) c.into.ensures) c.read_digits.ensures.told

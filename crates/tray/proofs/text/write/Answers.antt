@@ -1,15 +1,7 @@
-use Rattle.std.proofs.Common.{refl, arith}
-use Rattle.tray.proofs.TextLoops.{write_none, write_more, write_all}
+use Rattle.tray.proofs.TextLoops.{write_more}
 use Rattle.tray.proofs.text.write.Goals as goal
-
-pub loop-n-init : goal.loop-n-init
-loop-n-init c = write_none c.args.bytes.now
 
 pub loop-n-preserved : goal.loop-n-preserved
 loop-n-preserved c =
     write_more c.write_line_at.result c.args.list.now c.loop-n.bytes _ c.args.bytes.now c.loop-n.n c.index-list-n.result
     c.loop-n-test.true c.index-list-n.is c.if-triangles-free.false c.loop-n.auto.bytes c.loop-n.invariant c.write_line_at.ensures
-
-pub returns : goal.returns
-returns c =
-    (c.if-triangles-free.false, refl, write_all c.args.list.now c.loop-n.bytes c.args.bytes.now c.loop-n.n (omega arith) c.loop-n.invariant)

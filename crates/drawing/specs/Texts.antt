@@ -1,0 +1,61 @@
+-- What is printed of an opening that is asked, of refusals, of how a draw ended and of a report. Assumes nothing.
+use Rattle.std.specs.Prelude.{ℕ, List, ◌++◌, codes}
+use Rattle.std.specs.Fmt.{decimal}
+use Rattle.grid.specs.Texts.{voxel_text}
+use Rattle.drawing.specs.declared.asked.Asked.{Asked}
+use Rattle.drawing.specs.declared.cubes_left.CubesLeft.{CubesLeft}
+use Rattle.drawing.specs.declared.report.Report.{Report}
+use Rattle.drawing.specs.declared.letter.Letter.{Letter}
+use Rattle.drawing.specs.declared.letter.Letter.TheVariants.{H, L}
+use Rattle.drawing.specs.declared.progress.DrawRefusal.{DrawRefusal}
+use Rattle.drawing.specs.declared.progress.DrawRefusal.TheVariants.{OtherSides, ZeroBudget}
+use Rattle.drawing.specs.declared.progress.Ending.{Ending}
+use Rattle.drawing.specs.declared.progress.Ending.TheVariants as ending
+use Rattle.drawing.specs.declared.progress.Progress.{Progress}
+use Rattle.drawing.specs.declared.refusal.OpenRefusal.{OpenRefusal}
+use Rattle.drawing.specs.declared.unfinished.Unfinished.{Unfinished}
+use Rattle.drawing.specs.declared.refusal.OpenRefusal.TheVariants.{ThinSide, ZeroThreshold, NoPair, Lacking, Mixed}
+
+-- A letter is printed as itself.
+abbrev pub letter_text : Letter → List ℕ
+letter_text H = codes "H"
+letter_text L = codes "L"
+
+-- What is asked of an opening is printed as in: threshold 500, H, (18,6).
+abbrev pub asked_text : Asked → List ℕ
+asked_text a =
+    codes "threshold " ++ (decimal a.test.threshold ++ (codes ", " ++ (letter_text a.test.letter ++ (codes ", (" ++ (decimal a.s ++ (codes "," ++ (decimal a.h ++ codes ")")))))))
+
+-- A refusal is printed by its number and the reason, with the voxel that it tells.
+abbrev pub open_text : OpenRefusal → List ℕ
+open_text ThinSide = codes "refused with 4, a side is 1"
+open_text ZeroThreshold = codes "refused with 5, the threshold is 0"
+open_text NoPair = codes "refused with 6, no pair has these numbers"
+open_text (Lacking v f) = codes "refused with 7, no reading at " ++ voxel_text v
+open_text (Mixed v) = codes "refused with 8, the border changes kind at " ++ voxel_text v
+
+abbrev pub draw_text : DrawRefusal → List ℕ
+draw_text OtherSides = codes "refused with 9, it has other sides"
+draw_text ZeroBudget = codes "refused with 10, the budget is 0"
+
+abbrev pub unfinished_text : Unfinished → List ℕ
+unfinished_text e = codes "refused with 13, cubes are left"
+
+abbrev pub left_text : CubesLeft → List ℕ
+left_text e = unfinished_text (record {})
+
+-- An ending is printed by its number, if it has one, and the reason.
+abbrev pub ending_text : Ending → List ℕ
+ending_text ending.Done = codes "done"
+ending_text ending.Budget = codes "the budget is used up"
+ending_text (ending.Lacking cube fault) = codes "stopped with 11, no reading in the cube at " ++ voxel_text cube
+ending_text (ending.Full triangles free) =
+    codes "stopped with 12, the next cube has " ++ (decimal triangles ++ (codes " triangles, free places: " ++ decimal free))
+
+-- What a draw did is printed by its numbers, and how it ended.
+abbrev pub progress_text : Progress → List ℕ
+progress_text p =
+    decimal p.drawn ++ (codes " cubes, " ++ (decimal p.laid ++ (codes " triangles, " ++ (decimal p.left ++ (codes " left, " ++ ending_text p.ending)))))
+
+abbrev pub report_text : Report → List ℕ
+report_text r = decimal r.cubes ++ (codes " cubes and " ++ (decimal r.triangles ++ codes " triangles"))

@@ -1,0 +1,56 @@
+// A cube where it lies in a scan: its voxels, its links and their numbers.
+ghost use Rattle.std.specs.Prelude.{◌≡◌, ◌<◌, ◌≤◌, MatchOption};
+ghost use Rattle.grid.specs.Cubes.{Low, cube_count};
+ghost use Rattle.surface.specs.Places.{link_at, low_of, number_at, voxel_at};
+
+use grid::{Axis, Link, Sides, Voxel};
+
+// A cube of a scan with these sides, by its low voxel.
+#[derive(Clone, Copy)]
+pub(crate) struct CubeAt {
+    pub(crate) sides: Sides,
+    pub(crate) low: Voxel,
+    ghost inside: { Low sides low },
+}
+
+impl CubeAt {
+    // The cube with that number; none from the count of cubes on.
+    pub(crate) fn new(sides: Sides, number: u32) -> Option<CubeAt>
+        ensures { MatchOption result (cube_count sides ≤ number) (λ c. (c.sides ≡ sides) × (c.low ≡ low_of sides number)) }
+    {
+        let low = sides.cube_at(number)?;
+        Some(CubeAt { sides, low })
+    }
+
+    // Voxel i of the cube.
+    pub(crate) fn voxel(self, i: u8) -> Voxel
+        requires { i < 8 }
+        ensures { result ≡ voxel_at self.low i }
+    {
+        Voxel {
+            x: self.low.x + u32::from(i % 2),
+            y: self.low.y + u32::from(i / 2 % 2),
+            z: self.low.z + u32::from(i / 4 % 2),
+        }
+    }
+
+    // A link of the cube. Its number is bounded by a clause: a type for it would be taken apart at once.
+    fn link(self, link: u8) -> Link
+        requires { link < 12 }
+        ensures { result ≡ link_at self.low link }
+    {
+        let (lower, _) = cube::ends(link).unwrap();
+        Link {
+            lower: self.voxel(lower),
+            axis: Axis::try_from(u32::from(link / 4)).unwrap(),
+        }
+    }
+
+    // The number that a link of the cube has in the scan.
+    pub(crate) fn number_of(self, link: u8) -> u32
+        requires { link < 12 }
+        ensures { result ≡ number_at self.sides self.low link }
+    {
+        self.sides.link_number(self.link(link)).unwrap()
+    }
+}
