@@ -1,8 +1,7 @@
 -- The bits of a mask and the kinds that they tell. Assumes nothing.
 use Rattle.std.proofs.Common.{◌≡◌, ℕ, zero, suc, ◌-◌, ◌*◌, ◌%◌, ◌<◌, Bool, true, false, not, T, List, [], ◌∷◌, length, reverse, bit_or, refl, sym, ap, ◌∙◌, arith}
-use Rattle.std.specs.List.{fold}
+use Rattle.std.specs.List.{fold, list_all}
 use mir.Val.{bool_byte}
-use Rattle.cube.specs.Lists.{every}
 use Rattle.cube.specs.Cube.{Kinds, solid, exchange, bit, kinds, kinds_in, voxels}
 use Rattle.cube.proofs.Listed.{every_at}
 use Rattle.cube.proofs.Everywhere.{everywhere}
@@ -27,7 +26,7 @@ alike j k i = agree (solid j i) (solid k i)
 all_solid : Kinds
 all_solid = record { v0 = true; v1 = true; v2 = true; v3 = true; v4 = true; v5 = true; v6 = true; v7 = true }
 
-alike_are : (j k : Kinds) → T (every (alike j k) voxels) → j ≡ k
+alike_are : (j k : Kinds) → T (list_all (alike j k) voxels) → j ≡ k
 unfolding all_solid
 alike_are j k t =
     let at_voxel : (i : ℕ) → T (solid all_solid i) → solid j i ≡ solid k i = λ i s.
@@ -45,7 +44,7 @@ alike_are j k t =
 
 pub kinds_exchanged : (m : ℕ) → m < 256 → kinds (255 - m) ≡ exchange (kinds m)
 kinds_exchanged m h =
-    alike_are (kinds (255 - m)) (exchange (kinds m)) (at (λ n. every (alike (kinds (255 - n)) (exchange (kinds n))) voxels) 256 tt m h)
+    alike_are (kinds (255 - m)) (exchange (kinds m)) (at (λ n. list_all (alike (kinds (255 - n)) (exchange (kinds n))) voxels) 256 tt m h)
 
 -- The mask of eight kinds, made from the last on.
 abbrev pub mask_of : List Bool → ℕ
@@ -55,7 +54,7 @@ abbrev listed : Kinds → List Bool
 listed k = k.v0 ∷ k.v1 ∷ k.v2 ∷ k.v3 ∷ k.v4 ∷ k.v5 ∷ k.v6 ∷ k.v7 ∷ []
 
 kinds_listed : (k : Kinds) → kinds (mask_of (listed k)) ≡ k
-kinds_listed k = alike_are (kinds (mask_of (listed k))) k (everywhere (λ j. every (alike (kinds (mask_of (listed j))) j) voxels) tt k)
+kinds_listed k = alike_are (kinds (mask_of (listed k))) k (everywhere (λ j. list_all (alike (kinds (mask_of (listed j))) j) voxels) tt k)
 
 pub kinds_mask_of : (ks : List Bool) → length ks ≡ 8 → kinds (mask_of ks) ≡ kinds_in ks
 kinds_mask_of ks h = ap (λ xs. kinds (mask_of xs)) (sym (eight false ks h)) ∙ kinds_listed (kinds_in ks)

@@ -1,6 +1,6 @@
 -- The triangles of every cube keep the laws, under each pair. Assumes nothing.
-use Rattle.std.proofs.Common.{◌≡◌, Bool, true, false, not, leb, List, [], ◌∷◌, map, length, sym, refl, ap, leb→le}
-use Rattle.cube.specs.Lists.{gather, both}
+use Rattle.std.proofs.Common.{◌≡◌, Bool, true, false, not, leb, List, [], ◌∷◌, map, length, sym, refl, ap, leb→le, ◌&&◌}
+use Rattle.std.specs.List.{flat_map}
 use Rattle.cube.specs.Cube.{Kinds, exchange}
 use Rattle.cube.specs.Pairs.{swap}
 use Rattle.cube.specs.Triangles.{triangles, cut_all, with_tube, turn_over}
@@ -9,7 +9,7 @@ use Rattle.cube.specs.declared.pair.Connectedness.TheVariants.{Eighteen}
 use Rattle.cube.specs.declared.pair.Pair.{Pair}
 use Rattle.cube.specs.declared.pair.Pair.TheVariants.{S18H6, S26H6, S6H18, S6H26}
 use Rattle.cube.specs.declared.triangle.CubeTriangle.{CubeTriangle}
-use Rattle.cube.proofs.Listed.{both_left, both_right}
+use Rattle.cube.proofs.Listed.{and_left, and_right}
 use Rattle.cube.proofs.Everywhere.{everywhere}
 use Rattle.cube.proofs.Sound.{edged, cornered, sound, once, graphed, drawn, back, solids, hollows, all_cross, all_met}
 use Rattle.cube.proofs.Computed.{always_sound}
@@ -46,12 +46,12 @@ pub lawful : (p : Pair) (k : Kinds) → Lawful p k (triangles p k)
 lawful p k =
     let ts = triangles p k in
     let es = edges ts in
-    let ls = gather corners_of ts in
+    let ls = flat_map corners_of ts in
     let t = everywhere (sound p) (always_sound p) k in
-    let rest = both (cornered k ls) (leb (length ts) (most p k)) in
-    let e = both_left (edged p k es) rest t in
-    let r = both_right (edged p k es) rest t in
-    let c = both_left (cornered k ls) (leb (length ts) (most p k)) r in
+    let rest = cornered k ls && leb (length ts) (most p k) in
+    let e = and_left (edged p k es) rest t in
+    let r = and_right (edged p k es) rest t in
+    let c = and_left (cornered k ls) (leb (length ts) (most p k)) r in
     record {
       once = once p k es e;
       on_graph = graphed p k es e;
@@ -61,6 +61,6 @@ lawful p k =
       every_corner = all_met k ls c;
       solid_ends = solids p k es e;
       hollow_ends = hollows p k es e;
-      few = leb→le (length ts) (most p k) (both_right (cornered k ls) (leb (length ts) (most p k)) r);
+      few = leb→le (length ts) (most p k) (and_right (cornered k ls) (leb (length ts) (most p k)) r);
       mirror = mirrored p k;
     }

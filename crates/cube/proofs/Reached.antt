@@ -1,5 +1,5 @@
 -- What is reached by spreading marks is just what is joined. Assumes nothing.
-use Rattle.std.proofs.Common.{◌≡◌, ℕ, zero, suc, Bool, true, false, T, eqb, leb, List, map, get_or, sym, subst, ⊎_elim, eqb→eq, leb→le}
+use Rattle.std.proofs.Common.{◌≡◌, ℕ, zero, suc, Bool, false, T, eqb, leb, List, map, get_or, sym, subst, ⊎_elim, eqb→eq, leb→le, ◌&&◌}
 use Rattle.cube.specs.Cube.{Kinds, solid, voxels}
 use Rattle.cube.specs.Pairs.{Connected, apart, reach}
 use Rattle.cube.specs.Joined.{Joined, one, step, connected, touching, touches, taken, spread, spread_times, begun, seed, reached}
@@ -47,7 +47,7 @@ module _ (c : Connectedness) (k : Kinds) (a : ℕ) where
   sure_spread marked sure i t =
       ⊎_elim (sure i)
       (λ h. touched marked sure i (and_left (solid k i) (touches c marked i) h) (and_right (solid k i) (touches c marked i) h))
-      (or_cases (get_or marked i false) (elim (solid k i) [ true ↦ touches c marked i | false ↦ false ]) (at_voxel (taken c k marked) i t))
+      (or_cases (get_or marked i false) (solid k i && touches c marked i) (at_voxel (taken c k marked) i t))
 
   sure_times : (n : ℕ) (marked : List Bool) → Sure marked → Sure (spread_times n c k marked)
   sure_times zero marked sure = sure

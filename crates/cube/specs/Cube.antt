@@ -1,5 +1,5 @@
 -- The cube of eight voxels: its links, its faces, the kinds of its voxels, its mask. Assumes nothing.
-use Rattle.std.specs.Prelude.{ℕ, ◌/◌, ◌%◌, ◌^◌, Bool, true, false, not, T, List, [], ◌∷◌, get_or, ◌==◌, slice_index_or}
+use Rattle.std.specs.Prelude.{ℕ, ◌/◌, ◌%◌, ◌^◌, Bool, true, false, not, T, List, [], ◌∷◌, get_or, ◌==◌, slice_index_or, ◌||◌}
 use Rattle.cube.specs.Lists.{same}
 
 -- Voxel i of a cube lies dx, dy and dz from the cube's low voxel, where i = dx + 2 dy + 4 dz.
@@ -35,7 +35,7 @@ axis l = l / 4
 
 -- A link joins two voxels, whichever is named first.
 abbrev pub joins : ℕ → ℕ → ℕ → Bool
-joins l a b = elim (same (a, b) (lower l, upper l)) [ true ↦ true | false ↦ same (b, a) (lower l, upper l) ]
+joins l a b = same (a, b) (lower l, upper l) || same (b, a) (lower l, upper l)
 
 -- A face, by its four voxels as they are walked, and by the links that the walk passes from each to the next.
 pub record Face : Type 0 where

@@ -1,20 +1,21 @@
 -- How a loop is cut into triangles. Assumes nothing.
-use Rattle.std.specs.Prelude.{ℕ, zero, suc, ◌+◌, Bool, true, false, List, [], ◌∷◌, ◌++◌, map, length, ℤ, pos, ◌+ℤ◌, ◌-ℤ◌, ◌*ℤ◌, int_le, nat_eq, nat_lt, slice_index}
-use Rattle.cube.specs.Lists.{gather, keep, every, some, first, same}
+use Rattle.std.specs.Prelude.{ℕ, zero, suc, ◌+◌, Bool, true, false, List, [], ◌∷◌, ◌++◌, map, length, ℤ, pos, ◌+ℤ◌, ◌-ℤ◌, ◌*ℤ◌, int_le, nat_eq, nat_lt, slice_index, ◌&&◌, ◌||◌, flat_map, filter}
+use Rattle.std.specs.List.{list_all, list_any}
+use Rattle.cube.specs.Lists.{first, same}
 use Rattle.cube.specs.Cube.{Face, faces, face_links, Kinds, solid, voxels, lower, upper, dx, dy, dz}
 use Rattle.cube.specs.Loops.{corners}
 use Rattle.cube.specs.declared.triangle.CubeTriangle.{CubeTriangle}
 
 -- Two links lie on one face of the cube.
 abbrev pub on_face : ℕ → ℕ → Face → Bool
-on_face p q f = elim (some (nat_eq p) (face_links f)) [ true ↦ some (nat_eq q) (face_links f) | false ↦ false ]
+on_face p q f = list_any (nat_eq p) (face_links f) && list_any (nat_eq q) (face_links f)
 
 abbrev pub together : ℕ → ℕ → Bool
-together p q = some (on_face p q) faces
+together p q = list_any (on_face p q) faces
 
 -- An edge of the graph joins two corners, one way or the other: they are neighbours in their loop.
 abbrev pub neighbours : List (ℕ × ℕ) → ℕ → ℕ → Bool
-neighbours es p q = elim (some (same (p, q)) es) [ true ↦ true | false ↦ some (same (q, p)) es ]
+neighbours es p q = list_any (same (p, q)) es || list_any (same (q, p)) es
 
 -- A point, in coordinates twice those of the cube, so that corners, midway on their links, have whole ones too.
 pub record Point : Type 0 where
@@ -48,11 +49,11 @@ dot u v = u.x *ℤ v.x +ℤ (u.y *ℤ v.y +ℤ u.z *ℤ v.z)
 
 -- The points that a triangle must not have in front of it: the solid voxels and the corners of the whole cube.
 abbrev pub body : Kinds → List Point
-body k = map voxel_point (keep (solid k) voxels) ++ map corner_point (corners k)
+body k = map voxel_point (filter (solid k) voxels) ++ map corner_point (corners k)
 
 -- None of some points lies in front of a triangle: the determinant of q - p, r - p and w - p is at most 0 for each w.
 abbrev pub behind : Point → Point → Point → List Point → Bool
-behind p q r ws = let n = cross (minus q p) (minus r p) in every (λ w. int_le (dot n (minus w p)) (pos 0)) ws
+behind p q r ws = let n = cross (minus q p) (minus r p) in list_all (λ w. int_le (dot n (minus w p)) (pos 0)) ws
 
 -- Two corners may bound a triangle: they are neighbours in the loop, or no face holds both.
 abbrev pub may_join : List (ℕ × ℕ) → ℕ → ℕ → Bool
@@ -61,16 +62,7 @@ may_join es p q = elim (neighbours es p q) [ true ↦ true | false ↦ elim (tog
 -- A triangle is allowed: no side of it runs along a face unless it is a side of the loop, and the body lies behind it.
 abbrev pub allowed : List (ℕ × ℕ) → List Point → ℕ → ℕ → ℕ → Bool
 allowed es w p q r =
-    elim (may_join es p q) [
-      | true ↦ elim (may_join es q r) [
-        | true ↦ elim (may_join es p r) [
-          | true ↦ behind (corner_point p) (corner_point q) (corner_point r) w
-          | false ↦ false
-        ]
-        | false ↦ false
-      ]
-      | false ↦ false
-    ]
+    may_join es p q && (may_join es q r && (may_join es p r && behind (corner_point p) (corner_point q) (corner_point r) w))
 
 abbrev pub triangle : ℕ → ℕ → ℕ → CubeTriangle
 triangle p q r = record { 0 = p; 1 = q; 2 = r }
@@ -97,7 +89,7 @@ module _ (es : List (ℕ × ℕ)) (w : List Point) (loop : List ℕ) where
   abbrev pub cut : ℕ → ℕ → ℕ → List CubeTriangle
   cut zero i j = []
   cut (suc n) i j =
-      gather (λ m. from_low (slice_index loop i) (slice_index loop m) (slice_index loop j) ∷ (cut n i m ++ cut n m j)) (middle i j)
+      flat_map (λ m. from_low (slice_index loop i) (slice_index loop m) (slice_index loop j) ∷ (cut n i m ++ cut n m j)) (middle i j)
 
 -- The triangles of one loop: a loop of three is its own triangle, a longer one is cut from its first corner to its last.
 abbrev pub cut_loop : List (ℕ × ℕ) → List Point → List ℕ → List CubeTriangle

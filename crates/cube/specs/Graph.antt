@@ -1,6 +1,5 @@
 -- The graph that the kinds of a cube's voxels leave on its faces. Assumes nothing.
-use Rattle.std.specs.Prelude.{ℕ, Bool, true, false, List, [], ◌∷◌, ◌++◌, map, reverse}
-use Rattle.cube.specs.Lists.{gather}
+use Rattle.std.specs.Prelude.{ℕ, Bool, true, false, List, [], ◌∷◌, ◌++◌, map, reverse, flat_map}
 use Rattle.cube.specs.Cube.{Face, faces, Kinds, solid}
 use Rattle.cube.specs.declared.pair.Connectedness.{Connectedness}
 use Rattle.cube.specs.declared.pair.Connectedness.TheVariants.{Six, Eighteen, TwentySix}
@@ -58,4 +57,4 @@ graph_on s k f =
 
 -- The graph of the cube: the edges on its six faces.
 abbrev pub graph : Connectedness → Kinds → List (ℕ × ℕ)
-graph s k = gather (graph_on s k) faces
+graph s k = flat_map (graph_on s k) faces

@@ -1,6 +1,6 @@
 -- What holds of the triangles of every cube, under each of the four pairs. Assumes nothing.
-use Rattle.std.specs.Prelude.{◌≡◌, ℕ, ◌≤◌, true, false, T, List, [], ◌∷◌, map, length}
-use Rattle.cube.specs.Lists.{gather, In, Distinct}
+use Rattle.std.specs.Prelude.{◌≡◌, ℕ, ◌≤◌, true, false, T, List, [], ◌∷◌, map, length, flat_map}
+use Rattle.cube.specs.Lists.{In, Distinct}
 use Rattle.cube.specs.Cube.{Face, faces, Kinds, solid, exchange, lower, upper}
 use Rattle.cube.specs.Pairs.{of_solid, of_hollow, swap}
 use Rattle.cube.specs.Graph.{graph_on}
@@ -17,7 +17,7 @@ abbrev pub edges_of : CubeTriangle → List (ℕ × ℕ)
 edges_of t = (t.0, t.1) ∷ (t.1, t.2) ∷ (t.2, t.0) ∷ []
 
 abbrev pub edges : List CubeTriangle → List (ℕ × ℕ)
-edges ts = gather edges_of ts
+edges ts = flat_map edges_of ts
 
 abbrev pub corners_of : CubeTriangle → List ℕ
 corners_of t = t.0 ∷ t.1 ∷ t.2 ∷ []
@@ -49,8 +49,8 @@ pub record Lawful (p : Pair) (k : Kinds) (ts : List CubeTriangle) : Type 0 where
   -- An edge that lies on no face, a chord, is laid the other way too.
   pub chord : (e : ℕ × ℕ) → In e (edges ts) → ((f : Face) → In f faces → Lies e f → ⊥) → In (e.1, e.0) (edges ts)
   -- The corners of the triangles are the links between a solid and a hollow voxel.
-  pub corner : (l : ℕ) → In l (gather corners_of ts) → In l (corners k)
-  pub every_corner : (l : ℕ) → In l (corners k) → In l (gather corners_of ts)
+  pub corner : (l : ℕ) → In l (flat_map corners_of ts) → In l (corners k)
+  pub every_corner : (l : ℕ) → In l (corners k) → In l (flat_map corners_of ts)
   -- The solid ends of an edge's two links are joined in the cube, and so are the hollow ends.
   pub solid_ends : (e : ℕ × ℕ) → In e (edges ts) → Joined (of_solid p) k (solid_end k e.0) (solid_end k e.1)
   pub hollow_ends : (e : ℕ × ℕ) → In e (edges ts) → Joined (of_hollow p) (exchange k) (hollow_end k e.0) (hollow_end k e.1)
@@ -66,6 +66,6 @@ pub record Sized (loop : List ℕ) : Type 0 where
 -- The loops of a cube: each of three to seven corners, no corner in two of them or twice in one, each corner in one.
 pub record Looped (k : Kinds) (ls : List (List ℕ)) : Type 0 where
   pub sized : (l : List ℕ) → In l ls → Sized l
-  pub apart : Distinct (gather (λ l. l) ls)
-  pub corner : (l : ℕ) → In l (gather (λ l. l) ls) → In l (corners k)
-  pub every_corner : (l : ℕ) → In l (corners k) → In l (gather (λ l. l) ls)
+  pub apart : Distinct (flat_map (λ l. l) ls)
+  pub corner : (l : ℕ) → In l (flat_map (λ l. l) ls) → In l (corners k)
+  pub every_corner : (l : ℕ) → In l (corners k) → In l (flat_map (λ l. l) ls)

@@ -1,6 +1,6 @@
 -- The loops that the edges of a cube's graph form. Assumes nothing.
-use Rattle.std.specs.Prelude.{ℕ, zero, suc, Bool, true, false, List, [], ◌∷◌, map, ◌==◌, nat_le}
-use Rattle.cube.specs.Lists.{keep, every}
+use Rattle.std.specs.Prelude.{ℕ, zero, suc, Bool, true, false, List, [], ◌∷◌, map, ◌==◌, nat_le, filter}
+use Rattle.std.specs.List.{list_all}
 use Rattle.cube.specs.Cube.{Kinds, link_numbers, crossing}
 use Rattle.cube.specs.Graph.{graph}
 use Rattle.cube.specs.declared.pair.Connectedness.{Connectedness}
@@ -23,15 +23,15 @@ loop_from es p = trail 12 es p p
 
 -- The links that carry a corner, in the order of their numbers.
 abbrev pub corners : Kinds → List ℕ
-corners k = keep (crossing k) link_numbers
+corners k = filter (crossing k) link_numbers
 
 -- A corner is the lowest of its loop.
 abbrev pub lowest : List (ℕ × ℕ) → ℕ → Bool
-lowest es p = every (nat_le p) (loop_from es p)
+lowest es p = list_all (nat_le p) (loop_from es p)
 
 -- The loops of a graph, each from its lowest link, in the order of these.
 abbrev pub loops_of : Kinds → List (ℕ × ℕ) → List (List ℕ)
-loops_of k es = map (loop_from es) (keep (lowest es) (corners k))
+loops_of k es = map (loop_from es) (filter (lowest es) (corners k))
 
 abbrev pub loops : Connectedness → Kinds → List (List ℕ)
 loops s k = loops_of k (graph s k)

@@ -1,6 +1,5 @@
 -- What a table of 256 rows has to hold. Assumes nothing.
-use Rattle.std.specs.Prelude.{ℕ, zero, suc, Bool, true, false, T, List, [], ◌∷◌, take, ◌==◌, nat_le, slice_index_or}
-use Rattle.cube.specs.Lists.{both}
+use Rattle.std.specs.Prelude.{ℕ, zero, suc, Bool, true, false, T, List, [], ◌∷◌, take, ◌==◌, nat_le, slice_index_or, ◌&&◌}
 use Rattle.cube.specs.Cube.{kinds}
 use Rattle.cube.specs.Triangles.{cut_all}
 use Rattle.cube.specs.declared.pair.Connectedness.TheVariants.{Eighteen}
@@ -9,18 +8,18 @@ use Rattle.cube.specs.declared.triangle.CubeTriangle.{CubeTriangle}
 
 -- Two triangles have the same corners in the same order; two lists have the same triangles in the same order.
 abbrev pub same_triangle : CubeTriangle → CubeTriangle → Bool
-same_triangle s t = both (s.0 == t.0) (both (s.1 == t.1) (s.2 == t.2))
+same_triangle s t = (s.0 == t.0) && ((s.1 == t.1) && (s.2 == t.2))
 
 abbrev pub same_triangles : List CubeTriangle → List CubeTriangle → Bool
 same_triangles [] [] = true
 same_triangles [] (t ∷ ts) = false
 same_triangles (s ∷ ss) [] = false
-same_triangles (s ∷ ss) (t ∷ ts) = both (same_triangle s t) (same_triangles ss ts)
+same_triangles (s ∷ ss) (t ∷ ts) = same_triangle s t && same_triangles ss ts
 
 -- A test passes at n numbers from i on.
 abbrev pub passes : (ℕ → Bool) → ℕ → ℕ → Bool
 passes f zero i = true
-passes f (suc n) i = both (f i) (passes f n (suc i))
+passes f (suc n) i = f i && passes f n (suc i)
 
 -- What fills a row up.
 abbrev pub none : CubeTriangle
@@ -41,7 +40,7 @@ empty_row = record { count = 0; first = none; second = none; third = none; fourt
 abbrev pub row_ruled : List Row → ℕ → Bool
 row_ruled table m =
     let row = slice_index_or table m empty_row in
-    both (nat_le row.count 5) (same_triangles (triangles_in row) (cut_all Eighteen (kinds m)))
+    nat_le row.count 5 && same_triangles (triangles_in row) (cut_all Eighteen (kinds m))
 
 abbrev pub Ruled : List Row → Type 0
 Ruled table = T (passes (row_ruled table) 256 0)

@@ -1,6 +1,6 @@
 -- The triangles of a cube under each of the four pairs. Assumes nothing.
-use Rattle.std.specs.Prelude.{ℕ, ◌+◌, ◌-◌, Bool, true, false, List, [], ◌∷◌, ◌++◌, map, length, ◌==◌, nat_eq}
-use Rattle.cube.specs.Lists.{gather, keep, some}
+use Rattle.std.specs.Prelude.{ℕ, ◌+◌, ◌-◌, Bool, true, false, List, [], ◌∷◌, ◌++◌, map, length, ◌==◌, nat_eq, ◌&&◌, flat_map, filter}
+use Rattle.std.specs.List.{list_any}
 use Rattle.cube.specs.Cube.{Kinds, solid, exchange, axis, voxels}
 use Rattle.cube.specs.Graph.{graph}
 use Rattle.cube.specs.Loops.{loops, loops_of}
@@ -16,19 +16,16 @@ unfoldable pub cut_all : Connectedness → Kinds → List CubeTriangle
 cut_all s k =
     let es = graph s k in
     let w = body k in
-    gather (cut_loop es w) (loops_of k es)
+    flat_map (cut_loop es w) (loops_of k es)
 
 -- Just two voxels are solid, at opposite ends of the cube.
 abbrev pub opposite : Kinds → Bool
 opposite k =
-    elim (length (keep (solid k) voxels) == 2) [
-      | true ↦ some (λ i. elim (solid k i) [ true ↦ solid k (7 - i) | false ↦ false ]) (0 ∷ 1 ∷ 2 ∷ 3 ∷ [])
-      | false ↦ false
-    ]
+    length (filter (solid k) voxels) == 2 && list_any (λ i. solid k i && solid k (7 - i)) (0 ∷ 1 ∷ 2 ∷ 3 ∷ [])
 
 -- The corner of a loop whose link has the axis of neither p nor q, which have two different axes.
 abbrev pub third : List ℕ → ℕ → ℕ → List ℕ
-third loop p q = keep (λ r. nat_eq (axis p + axis q + axis r) 3) loop
+third loop p q = filter (λ r. nat_eq (axis p + axis q + axis r) 3) loop
 
 abbrev pub strip : List ℕ → ℕ → ℕ → List CubeTriangle
 strip loop p q = map (from_low p q) (third loop p q)

@@ -1,14 +1,14 @@
 -- Seven steps reach everything that is joined. Assumes nothing.
-use Rattle.std.proofs.Common.{ℕ, Bool, true, false, T, leb, List, get_or, le→leb}
-use Rattle.cube.specs.Lists.{every, both}
+use Rattle.std.proofs.Common.{ℕ, Bool, true, false, T, leb, List, get_or, le→leb, ◌&&◌}
+use Rattle.std.specs.List.{list_all}
+use Rattle.std.proofs.Math.Facts.{yes_and}
 use Rattle.cube.specs.Cube.{Kinds, solid, voxels}
 use Rattle.cube.specs.Pairs.{Connected, apart, reach}
 use Rattle.cube.specs.Joined.{Joined, one, step, connected, reached}
 use Rattle.cube.specs.declared.pair.Connectedness.{Connectedness}
-use Rattle.cube.specs.declared.pair.Connectedness.TheVariants.{Six, Eighteen, TwentySix}
-use Rattle.cube.proofs.Listed.{when, every_at, both_left, both_right, and_both}
-use Rattle.cube.specs.Everywhere.{all_kinds}
-use Rattle.cube.proofs.Everywhere.{everywhere}
+use Rattle.cube.proofs.Listed.{when, every_at, and_left, and_right}
+use Rattle.cube.specs.Everywhere.{all_kinds, each}
+use Rattle.cube.proofs.Everywhere.{everywhere_each}
 use Rattle.cube.proofs.Voxels.{solid_voxel}
 
 -- Marks are closed at b: where b is marked, so is each solid voxel d that is connected to it.
@@ -17,35 +17,24 @@ passes_on c k marked b d =
     elim (solid k d) [ true ↦ elim (connected c b d) [ true ↦ get_or marked d false | false ↦ true ] | false ↦ true ]
 
 abbrev closed_at : Connectedness → Kinds → List Bool → ℕ → Bool
-closed_at c k marked b = elim (get_or marked b false) [ true ↦ every (passes_on c k marked b) voxels | false ↦ true ]
+closed_at c k marked b = elim (get_or marked b false) [ true ↦ list_all (passes_on c k marked b) voxels | false ↦ true ]
 
 -- What is reached from a solid voxel holds it, and is closed at every voxel.
 abbrev full : Connectedness → Kinds → ℕ → List Bool → Bool
-full c k a marked = both (get_or marked a false) (every (closed_at c k marked) voxels)
+full c k a marked = get_or marked a false && list_all (closed_at c k marked) voxels
 
 abbrev full_from : Connectedness → Kinds → ℕ → Bool
 full_from c k a = elim (solid k a) [ true ↦ full c k a (reached c k a) | false ↦ true ]
 
 abbrev all_full : Connectedness → Kinds → Bool
-all_full c k = every (full_from c k) voxels
+all_full c k = list_all (full_from c k) voxels
 
-full_6 : T (all_kinds (all_full Six))
-full_6 = tt
-
-full_18 : T (all_kinds (all_full Eighteen))
-full_18 = tt
-
-full_26 : T (all_kinds (all_full TwentySix))
-full_26 = tt
-
-always_full : (c : Connectedness) → T (all_kinds (all_full c))
-always_full Six = full_6
-always_full Eighteen = full_18
-always_full TwentySix = full_26
+always_full : T (all_kinds λ k. each λ c. all_full c k)
+always_full = tt
 
 is_connected : (c : Connectedness) (i j : ℕ) → Connected c i j → T (connected c i j)
 is_connected c i j h =
-    and_both (leb 1 (apart i j)) (leb (apart i j) (reach c)) (le→leb 1 (apart i j) h.0) (le→leb (apart i j) (reach c) h.1)
+    yes_and (leb 1 (apart i j)) (leb (apart i j) (reach c)) (le→leb 1 (apart i j) h.0) (le→leb (apart i j) (reach c) h.1)
 
 module _ (c : Connectedness) (k : Kinds) (a : ℕ) where
   pub starts : {b : ℕ} → Joined c k a b → T (solid k a)
@@ -59,15 +48,15 @@ module _ (c : Connectedness) (k : Kinds) (a : ℕ) where
   is_full : T (solid k a) → T (full c k a (reached c k a))
   is_full t =
       when (solid k a) (full c k a (reached c k a))
-      (every_at (full_from c k) voxels (everywhere (all_full c) (always_full c) k) a (solid_voxel k a t)) t
+      (every_at (full_from c k) voxels (everywhere_each all_full always_full c k) a (solid_voxel k a t)) t
 
   pub joined_reached : {b : ℕ} → Joined c k a b → T (get_or (reached c k a) b false)
-  joined_reached (one t) = both_left (get_or (reached c k a) a false) (every (closed_at c k (reached c k a)) voxels) (is_full t)
+  joined_reached (one t) = and_left (get_or (reached c k a) a false) (list_all (closed_at c k (reached c k a)) voxels) (is_full t)
   joined_reached (step {b} {d} j h t) =
       let marked = reached c k a in
-      let closed = both_right (get_or marked a false) (every (closed_at c k marked) voxels) (is_full (starts j)) in
+      let closed = and_right (get_or marked a false) (list_all (closed_at c k marked) voxels) (is_full (starts j)) in
       let at_b = every_at (closed_at c k marked) voxels closed b (solid_voxel k b (ends j)) in
-      let from-b = when (get_or marked b false) (every (passes_on c k marked b) voxels) at_b (joined_reached j) in
+      let from-b = when (get_or marked b false) (list_all (passes_on c k marked b) voxels) at_b (joined_reached j) in
       let at-d = every_at (passes_on c k marked b) voxels from-b d (solid_voxel k d t) in
       when (connected c b d) (get_or marked d false)
       (when (solid k d) (elim (connected c b d) [ true ↦ get_or marked d false | false ↦ true ]) at-d t) (is_connected c b d h)

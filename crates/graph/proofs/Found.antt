@@ -1,7 +1,7 @@
 -- Loops found link by link. Assumes nothing.
-use Rattle.std.proofs.Common.{◌≡◌, ℕ, suc, ◌+◌, ◌<◌, ◌≤◌, Bool, true, false, eqb, List, [], ◌∷◌, ◌++◌, map, get_or, drop, sym, ap, ◌∙◌, append_assoc, append-nil, add-one, eqb→eq, drop-cons}
+use Rattle.std.proofs.Common.{◌≡◌, ℕ, suc, ◌+◌, ◌<◌, ◌≤◌, Bool, true, false, cond, eqb, List, [], ◌∷◌, ◌++◌, map, get_or, drop, sym, ap, ◌∙◌, append_assoc, append-nil, add-one, eqb→eq, drop-cons}
 use Rattle.std.proofs.lemmas.List.{drop_all, map_push}
-use Rattle.cube.specs.Lists.{keep}
+use Rattle.std.specs.List.{filter}
 use Rattle.cube.specs.Cube.{Kinds, crossing, link_numbers}
 use Rattle.cube.specs.Loops.{loop_from, lowest, loops_of}
 use Rattle.cube.proofs.Masks.{at}
@@ -9,7 +9,7 @@ use Rattle.cube.proofs.Masks.{at}
 module _ (k : Kinds) (es : List (ℕ × ℕ)) where
   -- The loops that begin at one of some links.
   abbrev pub loops_at : List ℕ → List (List ℕ)
-  loops_at ls = map (loop_from es) (keep (lowest es) (keep (crossing k) ls))
+  loops_at ls = map (loop_from es) (filter (lowest es) (filter (crossing k) ls))
 
   abbrev pub loops_past : ℕ → List (List ℕ)
   loops_past i = loops_at (drop i link_numbers)
@@ -22,18 +22,18 @@ module _ (k : Kinds) (es : List (ℕ × ℕ)) where
   -- no corner there
   pub past_level : (i : ℕ) → i < 12 → crossing k i ≡ false → loops_past i ≡ loops_past (i + 1)
   past_level i h e =
-      let rest = keep (crossing k) (drop (i + 1) link_numbers) in
-      ap loops_at (here i h) ∙ ap (λ b. map (loop_from es) (keep (lowest es) (elim b [ true ↦ i ∷ rest | false ↦ rest ]))) e
+      let rest = filter (crossing k) (drop (i + 1) link_numbers) in
+      ap loops_at (here i h) ∙ ap (λ b. map (loop_from es) (filter (lowest es) (cond b (i ∷ rest) rest))) e
 
   abbrev kept : ℕ → Bool → List (List ℕ)
   kept i b =
-      let rest = keep (crossing k) (drop (i + 1) link_numbers) in
-      map (loop_from es) (elim b [ true ↦ i ∷ keep (lowest es) rest | false ↦ keep (lowest es) rest ])
+      let rest = filter (crossing k) (drop (i + 1) link_numbers) in
+      map (loop_from es) (cond b (i ∷ filter (lowest es) rest) (filter (lowest es) rest))
 
   corner_here : (i : ℕ) → i < 12 → crossing k i ≡ true → loops_past i ≡ kept i (lowest es i)
   corner_here i h e =
-      let rest = keep (crossing k) (drop (i + 1) link_numbers) in
-      ap loops_at (here i h) ∙ ap (λ b. map (loop_from es) (keep (lowest es) (elim b [ true ↦ i ∷ rest | false ↦ rest ]))) e
+      let rest = filter (crossing k) (drop (i + 1) link_numbers) in
+      ap loops_at (here i h) ∙ ap (λ b. map (loop_from es) (filter (lowest es) (cond b (i ∷ rest) rest))) e
 
   -- a corner whose loop begins lower
   pub past_higher : (i : ℕ) → i < 12 → crossing k i ≡ true → lowest es i ≡ false → loops_past i ≡ loops_past (i + 1)

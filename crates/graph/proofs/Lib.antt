@@ -1,7 +1,6 @@
 pub mod Trails
 pub mod Found
 pub mod Led
-pub mod Tests
 pub mod Closed
 pub mod Looped
 pub mod Made

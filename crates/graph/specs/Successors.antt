@@ -1,10 +1,10 @@
 -- The edge that leaves a corner, found on the one face where the corner is a start. Assumes nothing.
-use Rattle.std.specs.Prelude.{ℕ, Bool, true, false, T, List, ◌==◌, nat_lt, slice_index_or}
-use Rattle.cube.specs.Lists.{every, both}
+use Rattle.std.specs.Prelude.{ℕ, Bool, true, false, T, List, ◌==◌, nat_lt, slice_index_or, ◌&&◌}
+use Rattle.std.specs.List.{list_all}
 use Rattle.cube.specs.Cube.{Kinds, solid, link_numbers}
 use Rattle.cube.specs.Graph.{graph}
 use Rattle.cube.specs.Loops.{next}
-use Rattle.cube.specs.Everywhere.{all_kinds}
+use Rattle.cube.specs.Everywhere.{all_kinds, each}
 use Rattle.cube.specs.declared.pair.Connectedness.{Connectedness}
 use Rattle.cube.specs.declared.pair.Connectedness.TheVariants.{Six, Eighteen, TwentySix}
 use Rattle.graph.specs.declared.walk.Walk.{Walk}
@@ -38,13 +38,10 @@ by_walks walks s k l =
     ]
 
 -- The table leads as the graph does, at every link of a cube, for each connectedness of solid.
-abbrev pub leads : List BothWays → Kinds → Connectedness → Bool
-leads walks k s =
+abbrev pub leads : List BothWays → Connectedness → Kinds → Bool
+leads walks s k =
     let es = graph s k in
-    every (λ l. both (by_walks walks s k l == next es l) (nat_lt (next es l) 12)) link_numbers
-
-abbrev pub leads_all : List BothWays → Kinds → Bool
-leads_all walks k = both (leads walks k Six) (both (leads walks k Eighteen) (leads walks k TwentySix))
+    list_all (λ l. by_walks walks s k l == next es l && nat_lt (next es l) 12) link_numbers
 
 abbrev pub Leads : List BothWays → Type 0
-Leads walks = T (all_kinds (leads_all walks))
+Leads walks = T (all_kinds λ k. each λ s. leads walks s k)

@@ -75,5 +75,5 @@ pub fn joined(mask: Mask, c: Connectedness, a: u8, b: u8) -> bool
         mask,
         connectedness: c,
     };
-    b < 8 && solid.reached(a)[b as usize]
+    solid.reached(a).get(b as usize).copied().unwrap_or(false)
 }

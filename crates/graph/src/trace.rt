@@ -1,8 +1,8 @@
 // The loops that the edges on a cube's faces form.
 ghost use Rattle.std.specs.Prelude.{◌≡◌, ◌<◌, map, IfOk, vec_items, nat_le};
+ghost use Rattle.std.specs.List.{list_all};
 ghost use Rattle.cube.specs.Cube.{kinds};
 ghost use Rattle.cube.specs.Laws.{Looped};
-ghost use Rattle.cube.specs.Lists.{every};
 ghost use Rattle.cube.specs.Loops.{next, loop_from, loops as the-loops};
 ghost use Rattle.graph.specs.Solids.{kinds_of, edges_of};
 ghost use Rattle.graph.specs.Successors.{ahead, by_walks, Leads};
@@ -82,7 +82,7 @@ impl Solid {
 
 // Whether no corner of a list is below a link.
 fn none_below(corners: &[u8], link: u8) -> bool
-    ensures { result ≡ every (nat_le link) corners.now }
+    ensures { result ≡ list_all (nat_le link) corners.now }
 {
     corners.iter().all(|corner| link <= *corner)
 }

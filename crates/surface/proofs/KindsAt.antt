@@ -3,9 +3,10 @@ use mathlib.Core.Path.{◌≡◌, refl, ap, ap₂, ◌∙◌}
 use mathlib.Core.Bool.{Bool, true, false, not}
 use Prim.Native.Nat.{ℕ}
 use lib.Dec.{T, eqb, eqb→eq}
+use Rattle.std.specs.List.{list_all, list_any}
 use Rattle.grid.specs.Links.{upper_of}
 use Rattle.grid.specs.declared.voxel.Voxel.{Voxel}
-use Rattle.cube.specs.Lists.{every, some, In}
+use Rattle.cube.specs.Lists.{In}
 use Rattle.cube.specs.Cube.{solid, voxels, lower, upper, link_numbers, crossing}
 use Rattle.cube.specs.Laws.{solid_end as cube_solid_end, hollow_end as cube_hollow_end}
 use Rattle.cube.proofs.Listed.{every_at, found}
@@ -15,10 +16,10 @@ use Rattle.surface.proofs.Membership.{all_at}
 use Rattle.surface.proofs.Numbered.{upper_at}
 
 -- The ends of a cube's links are voxels of the cube.
-all_lower : T (every (λ l. some (eqb (lower l)) voxels) link_numbers)
+all_lower : T (list_all (λ l. list_any (eqb (lower l)) voxels) link_numbers)
 all_lower = tt
 
-all_upper : T (every (λ l. some (eqb (upper l)) voxels) link_numbers)
+all_upper : T (list_all (λ l. list_any (eqb (upper l)) voxels) link_numbers)
 all_upper = tt
 
 module _ (solids : Solids) (u : Voxel) where
@@ -30,11 +31,11 @@ module _ (solids : Solids) (u : Voxel) where
   module _ (l : ℕ) (i : In l link_numbers) where
     kind_lower : solid (kinds_at solids u) (lower l) ≡ solids (voxel_at u (lower l))
     kind_lower =
-        kind_at (lower l) (found eqb eqb→eq (lower l) voxels (every_at (λ l. some (eqb (lower l)) voxels) link_numbers all_lower l i))
+        kind_at (lower l) (found eqb eqb→eq (lower l) voxels (every_at (λ l. list_any (eqb (lower l)) voxels) link_numbers all_lower l i))
 
     kind_upper : solid (kinds_at solids u) (upper l) ≡ solids (upper_of (link_at u l))
     kind_upper =
-        kind_at (upper l) (found eqb eqb→eq (upper l) voxels (every_at (λ l. some (eqb (upper l)) voxels) link_numbers all_upper l i))
+        kind_at (upper l) (found eqb eqb→eq (upper l) voxels (every_at (λ l. list_any (eqb (upper l)) voxels) link_numbers all_upper l i))
         ∙ ap solids (upper_at u l i)
 
     -- A link of the cube carries a corner just where the link of the scan does.

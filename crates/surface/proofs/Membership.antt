@@ -1,10 +1,11 @@
--- What stands in lists that are joined, mapped or gathered. Assumes nothing.
-use mathlib.Core.Path.{◌≡◌, refl, sym, ap, subst, ◌∙◌}
+-- What stands in lists that are joined or mapped. Assumes nothing.
+use mathlib.Core.Path.{◌≡◌, refl, sym, ap, subst}
 use mathlib.Core.Logic.{◌⊎◌, inl, inr, ⊎_elim}
-use mathlib.Core.Bool.{Bool, true, false}
-use mathlib.Core.List.{List, [], ◌∷◌, ◌++◌, map, append_assoc}
+use mathlib.Core.Bool.{Bool, true, false, cond}
+use mathlib.Core.List.{List, [], ◌∷◌, ◌++◌, map}
 use lib.Dec.{T}
-use Rattle.cube.specs.Lists.{gather, keep, some, In, Distinct}
+use Rattle.std.specs.List.{flat_map, filter, list_any}
+use Rattle.cube.specs.Lists.{In, Distinct}
 use Rattle.cube.proofs.Listed.{or_left, or_right}
 
 -- A test passes or it does not.
@@ -36,31 +37,31 @@ module _ {A : Type 0} where
   )
 
   -- What is kept of a list stands in it, and passed the test.
-  pub kept : (f : A → Bool) (x : A) (xs : List A) → In x (keep f xs) → In x xs × T (f x)
+  pub kept : (f : A → Bool) (x : A) (xs : List A) → In x (filter f xs) → In x xs × T (f x)
   kept f x [] i = absurd i
   kept f x (y ∷ ys) i = go (f y) refl i (kept f x ys)
     where
-      go : (b : Bool) → f y ≡ b → In x (elim b [ true ↦ y ∷ keep f ys | false ↦ keep f ys ]) → (In x (keep f ys) → In x ys × T (f x)) → In x (y ∷ ys) × T (f x)
+      go : (b : Bool) → f y ≡ b → In x (cond b (y ∷ filter f ys) (filter f ys)) → (In x (filter f ys) → In x ys × T (f x)) → In x (y ∷ ys) × T (f x)
       go true e (inl q) rest = (inl q, subst (λ z. T (f z)) (sym q) (subst T (sym e) tt))
       go true e (inr j) rest = (inr (rest j).0, (rest j).1)
       go false e j rest = (inr (rest j).0, (rest j).1)
 
   -- What stands in a list and passes a test is kept.
-  pub keeps : (f : A → Bool) (x : A) (xs : List A) → T (f x) → In x xs → In x (keep f xs)
+  pub keeps : (f : A → Bool) (x : A) (xs : List A) → T (f x) → In x xs → In x (filter f xs)
   keeps f x [] t i = absurd i
   keeps f x (y ∷ ys) t i = go (f y) refl i (keeps f x ys t)
     where
-      go : (b : Bool) → f y ≡ b → In x (y ∷ ys) → (In x ys → In x (keep f ys)) → In x (elim b [ true ↦ y ∷ keep f ys | false ↦ keep f ys ])
+      go : (b : Bool) → f y ≡ b → In x (y ∷ ys) → (In x ys → In x (filter f ys)) → In x (cond b (y ∷ filter f ys) (filter f ys))
       go true e (inl q) rest = inl q
       go true e (inr j) rest = inr (rest j)
       go false e (inl q) rest = absurd (subst T e (subst (λ z. T (f z)) q t))
       go false e (inr j) rest = rest j
 
   -- A test that one element passes is passed by some.
-  pub some_in : (f : A → Bool) (x : A) (xs : List A) → In x xs → T (f x) → T (some f xs)
+  pub some_in : (f : A → Bool) (x : A) (xs : List A) → In x xs → T (f x) → T (list_any f xs)
   some_in f x [] i t = absurd i
-  some_in f x (y ∷ ys) (inl e) t = or_left (f y) (some f ys) (subst (λ z. T (f z)) e t)
-  some_in f x (y ∷ ys) (inr i) t = or_right (f y) (some f ys) (some_in f x ys i t)
+  some_in f x (y ∷ ys) (inl e) t = or_left (f y) (list_any f ys) (subst (λ z. T (f z)) e t)
+  some_in f x (y ∷ ys) (inr i) t = or_right (f y) (list_any f ys) (some_in f x ys i t)
 
   -- A fact for each element of a list, and what it says of one.
   abbrev pub All : (A → Type 0) → List A → Type 0
@@ -91,11 +92,7 @@ module _ {A B : Type 0} (f : A → B) where
     distinct_map xs (λ y z i j. one y z (inr i) (inr j)) d.1,
   )
 
-pub gather_both : {A B : Type 0} (f : A → List B) (xs ys : List A) → gather f (xs ++ ys) ≡ gather f xs ++ gather f ys
-gather_both f [] ys = refl
-gather_both f (x ∷ xs) ys = ap (λ zs. f x ++ zs) (gather_both f xs ys) ∙ sym (append_assoc (f x) (gather f xs) (gather f ys))
-
-pub gather_in : {A B : Type 0} (f : A → List B) (y : B) (x : A) (xs : List A) → In x xs → In y (f x) → In y (gather f xs)
-gather_in f y x [] i j = absurd i
-gather_in f y x (z ∷ zs) (inl e) j = in_left y (f z) (gather f zs) (subst (λ w. In y (f w)) e j)
-gather_in f y x (z ∷ zs) (inr i) j = in_right y (f z) (gather f zs) (gather_in f y x zs i j)
+pub flat_map_in : {A B : Type 0} (f : A → List B) (y : B) (x : A) (xs : List A) → In x xs → In y (f x) → In y (flat_map f xs)
+flat_map_in f y x [] i j = absurd i
+flat_map_in f y x (z ∷ zs) (inl e) j = in_left y (f z) (flat_map f zs) (subst (λ w. In y (f w)) e j)
+flat_map_in f y x (z ∷ zs) (inr i) j = in_right y (f z) (flat_map f zs) (flat_map_in f y x zs i j)

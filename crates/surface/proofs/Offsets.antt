@@ -1,15 +1,17 @@
 -- Which links two cubes have in common, by how one cube lies to the other. Assumes nothing.
 use mathlib.Core.Path.{◌≡◌, refl, sym, ap, subst}
-use mathlib.Core.Bool.{Bool, true, false}
+use mathlib.Core.Bool.{Bool, true, false, ◌&&◌}
 use Prim.Native.Nat.{ℕ, zero, suc}
 use native.Mathlib.Omega.{arith}
 use lib.Dec.{T, eqb, eqb→eq, eqb_refl}
+use Rattle.std.specs.List.{list_all}
+use Rattle.std.proofs.Math.Facts.{yes_and}
 use Rattle.grid.specs.Links.{axis_number}
 use Rattle.grid.specs.declared.voxel.Voxel.{Voxel}
 use Rattle.grid.proofs.Same.{voxel_same, axis_same}
-use Rattle.cube.specs.Lists.{every, In}
+use Rattle.cube.specs.Lists.{In}
 use Rattle.cube.specs.Cube.{dx, dy, dz, lower, axis, link_numbers}
-use Rattle.cube.proofs.Listed.{and_left, and_right, and_both, when, every_at}
+use Rattle.cube.proofs.Listed.{and_left, and_right, when, every_at}
 use Rattle.surface.specs.Places.{onward, voxel_at, axis_named, link_at}
 
 -- A coordinate against another: one less, the same, one more.
@@ -85,13 +87,7 @@ along l = axis_number (axis_named (axis l))
 -- Link i of one cube is link j of the other.
 abbrev pub meets : Offset → ℕ → ℕ → Bool
 meets o i j =
-    elim (meet o.0 (dx (lower i)) (dx (lower j))) [
-      | true ↦ elim (meet o.1 (dy (lower i)) (dy (lower j))) [
-        | true ↦ elim (meet o.2 (dz (lower i)) (dz (lower j))) [ true ↦ eqb (along i) (along j) | false ↦ false ]
-        | false ↦ false
-      ]
-      | false ↦ false
-    ]
+    meet o.0 (dx (lower i)) (dx (lower j)) && (meet o.1 (dy (lower i)) (dy (lower j)) && (meet o.2 (dz (lower i)) (dz (lower j)) && eqb (along i) (along j)))
 
 module _ (o : Offset) (u v : Voxel) (h : Related o u v) (i j : ℕ) where
   abbrev mx : Bool
@@ -107,10 +103,10 @@ module _ (o : Offset) (u v : Voxel) (h : Related o u v) (i j : ℕ) where
   ma = eqb (along i) (along j)
 
   abbrev mza : Bool
-  mza = elim mz [ true ↦ ma | false ↦ false ]
+  mza = mz && ma
 
   abbrev myza : Bool
-  myza = elim my [ true ↦ mza | false ↦ false ]
+  myza = my && mza
 
   pub meets_same : T (meets o i j) → link_at u i ≡ link_at v j
   meets_same t =
@@ -126,9 +122,9 @@ module _ (o : Offset) (u v : Voxel) (h : Related o u v) (i j : ℕ) where
 
   pub same_meets : link_at u i ≡ link_at v j → T (meets o i j)
   same_meets e =
-      and_both mx myza (same_meet o.0 (dx (lower i)) (dx (lower j)) u.x v.x h.0 (ap (λ k. k.lower.x) e))
-      (and_both my mza (same_meet o.1 (dy (lower i)) (dy (lower j)) u.y v.y h.1 (ap (λ k. k.lower.y) e))
-      (and_both mz ma (same_meet o.2 (dz (lower i)) (dz (lower j)) u.z v.z h.2 (ap (λ k. k.lower.z) e))
+      yes_and mx myza (same_meet o.0 (dx (lower i)) (dx (lower j)) u.x v.x h.0 (ap (λ k. k.lower.x) e))
+      (yes_and my mza (same_meet o.1 (dy (lower i)) (dy (lower j)) u.y v.y h.1 (ap (λ k. k.lower.y) e))
+      (yes_and mz ma (same_meet o.2 (dz (lower i)) (dz (lower j)) u.z v.z h.2 (ap (λ k. k.lower.z) e))
       (subst (λ n. T (eqb (along i) n)) (ap (λ k. axis_number k.axis) e) (eqb_refl (along i)))))
 
 -- Cubes that have a link in common lie to each other in one of these ways.
@@ -143,12 +139,12 @@ related u v i j e =
 abbrev apart_in_cube : ℕ → ℕ → Bool
 apart_in_cube i j = elim (meets (level, level, level) i j) [ true ↦ eqb i j | false ↦ true ]
 
-all_apart : T (every (λ i. every (apart_in_cube i) link_numbers) link_numbers)
+all_apart : T (list_all (λ i. list_all (apart_in_cube i) link_numbers) link_numbers)
 all_apart = tt
 
 pub link_once : (u : Voxel) (i j : ℕ) → In i link_numbers → In j link_numbers → link_at u i ≡ link_at u j → i ≡ j
 link_once u i j hi hj e =
     eqb→eq i j
     (when (meets (level, level, level) i j) (eqb i j)
-    (every_at (apart_in_cube i) link_numbers (every_at (λ i. every (apart_in_cube i) link_numbers) link_numbers all_apart i hi) j hj)
+    (every_at (apart_in_cube i) link_numbers (every_at (λ i. list_all (apart_in_cube i) link_numbers) link_numbers all_apart i hi) j hj)
     (same_meets (level, level, level) u u (refl, refl, refl) i j e))

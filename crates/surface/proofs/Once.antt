@@ -19,7 +19,8 @@ use Rattle.cube.proofs.Lawful.{lawful}
 use Rattle.surface.specs.Places.{Solids, kinds_at, low_of}
 use Rattle.surface.specs.Laid.{laid_at, laid, edges_of, edges, back}
 use Rattle.surface.specs.Laws.{LaidOnce}
-use Rattle.surface.proofs.Membership.{distinct_both, distinct_map, gather_both}
+use Rattle.std.proofs.lemmas.Grind.{flat_map-append}
+use Rattle.surface.proofs.Membership.{distinct_both, distinct_map}
 use Rattle.surface.proofs.Numbered.{low_is, low_same, number_same}
 use Rattle.surface.proofs.Offsets.{Related, link_once}
 use Rattle.surface.proofs.Faces.{one_way, edge_links, edge_differs}
@@ -91,7 +92,7 @@ module _ (s : Sides) (p : Pair) (solids : Solids) where
   pub once : (n : ℕ) → n ≤ cube_count s → Distinct (edges (laid s p solids n))
   once zero h = tt
   once (suc n) h =
-      subst Distinct (sym (gather_both edges_of (laid s p solids n) (laid_at s p solids (low_of s n))))
+      subst Distinct (sym (flat_map-append edges_of (laid s p solids n) (laid_at s p solids (low_of s n))))
       (distinct_both (edges (laid s p solids n)) (edges (laid_at s p solids (low_of s n))) (once n (omega arith))
       (once_at (low_of s n) (low_is s n (omega arith))) apart)
     where

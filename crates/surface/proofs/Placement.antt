@@ -6,13 +6,14 @@ use Prim.Native.Nat.{ℕ, zero, suc, ◌+◌, ◌<◌}
 use native.Mathlib.Nat.{eq-or-lt_of_le}
 use native.Mathlib.Omega.{arith}
 use lib.Dec.{T, eqb, eqb→eq}
+use Rattle.std.specs.List.{list_any}
 use Rattle.grid.specs.Links.{upper_of}
 use Rattle.grid.specs.declared.axis.Axis.{Axis}
 use Rattle.grid.specs.declared.axis.Axis.TheVariants.{X, Y, Z}
 use Rattle.grid.specs.declared.link.Link.{Link}
 use Rattle.grid.specs.declared.voxel.Voxel.{Voxel}
 use Rattle.grid.proofs.Same.{voxel_same}
-use Rattle.cube.specs.Lists.{some, In}
+use Rattle.cube.specs.Lists.{In}
 use Rattle.cube.specs.Cube.{dx, dy, dz, lower, upper, link_numbers}
 use Rattle.cube.proofs.Listed.{found}
 use Rattle.surface.specs.Places.{onward, voxel_at, link_at}
@@ -54,7 +55,7 @@ link_same a p q r n = link (p n) (q n) (r n) a
 
 module _ (low : Voxel) where
   -- A link that is link l of the cube is among its links.
-  put : (l : ℕ) → T (some (eqb l) link_numbers) → (v : Voxel) (a : Axis) → link v.x v.y v.z a ≡ link_at low l
+  put : (l : ℕ) → T (list_any (eqb l) link_numbers) → (v : Voxel) (a : Axis) → link v.x v.y v.z a ≡ link_at low l
       → In (link v.x v.y v.z a) (map (link_at low) link_numbers)
   put l t v a e =
       subst (λ j. In j (map (link_at low) link_numbers)) (sym e)

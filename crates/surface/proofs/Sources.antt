@@ -3,18 +3,20 @@ use mathlib.Core.Path.{◌≡◌, refl, sym, ap, subst}
 use mathlib.Core.Logic.{⊎_elim}
 use mathlib.Core.List.{List, [], ◌∷◌, map}
 use Prim.Native.Nat.{ℕ, zero, suc, ◌≤◌, ◌<◌}
+use Rattle.std.specs.List.{flat_map}
 use native.Mathlib.Nat.{eq-or-lt_of_le}
 use native.Mathlib.Omega.{arith}
 use Rattle.grid.specs.declared.sides.Sides.{Sides}
 use Rattle.grid.specs.declared.voxel.Voxel.{Voxel}
-use Rattle.cube.specs.Lists.{gather, In}
+use Rattle.cube.specs.Lists.{In}
 use Rattle.cube.specs.Triangles.{triangles}
 use Rattle.cube.specs.Laws.{edges as cube_edges, corners_of as cube_corners_of}
 use Rattle.cube.specs.declared.pair.Pair.{Pair}
 use Rattle.cube.specs.declared.triangle.CubeTriangle.{CubeTriangle}
 use Rattle.surface.specs.Places.{Solids, kinds_at, number_at, low_of}
 use Rattle.surface.specs.Laid.{Triangle, numbered, laid_at, laid, edges, corners}
-use Rattle.surface.proofs.Membership.{in_left, in_right, in_either, in_map, map_in, gather_both}
+use Rattle.std.proofs.lemmas.Grind.{flat_map-append}
+use Rattle.surface.proofs.Membership.{in_left, in_right, in_either, in_map, map_in}
 
 -- An edge of a cube in the scan's link numbers.
 abbrev pub edge_at : Sides → Voxel → ℕ × ℕ → ℕ × ℕ
@@ -25,7 +27,7 @@ edges_numbered s u [] = refl
 edges_numbered s u (t ∷ ts) =
     ap (λ es. edge_at s u (t.0, t.1) ∷ edge_at s u (t.1, t.2) ∷ edge_at s u (t.2, t.0) ∷ es) (edges_numbered s u ts)
 
-corners_numbered : (s : Sides) (u : Voxel) (ts : List CubeTriangle) → corners (map (numbered s u) ts) ≡ map (number_at s u) (gather cube_corners_of ts)
+corners_numbered : (s : Sides) (u : Voxel) (ts : List CubeTriangle) → corners (map (numbered s u) ts) ≡ map (number_at s u) (flat_map cube_corners_of ts)
 corners_numbered s u [] = refl
 corners_numbered s u (t ∷ ts) =
     ap (λ ls. number_at s u t.0 ∷ number_at s u t.1 ∷ number_at s u t.2 ∷ ls) (corners_numbered s u ts)
@@ -49,22 +51,22 @@ module _ (s : Sides) (p : Pair) (solid : Solids) where
 
   -- What the triangles show, as edges or corners, is shown by the triangles of one of the first n cubes.
   module _ {B : Type 0} (show : Triangle → List B) (b : B) where
-    pub part_from : (n : ℕ) → In b (gather show (laid s p solid n))
-        → (c : ℕ) × (c < n) × In b (gather show (laid_at s p solid (low_of s c)))
+    pub part_from : (n : ℕ) → In b (flat_map show (laid s p solid n))
+        → (c : ℕ) × (c < n) × In b (flat_map show (laid_at s p solid (low_of s c)))
     part_from zero i = absurd i
     part_from (suc n) i =
         ⊎_elim (λ j. let r = part_from n j in (r.0, later r.0 n r.1, r.2)) (λ j. (n, omega arith, j))
-        (in_either b (gather show (laid s p solid n)) (gather show (laid_at s p solid (low_of s n)))
-        (subst (In b) (gather_both show (laid s p solid n) (laid_at s p solid (low_of s n))) i))
+        (in_either b (flat_map show (laid s p solid n)) (flat_map show (laid_at s p solid (low_of s n)))
+        (subst (In b) (flat_map-append show (laid s p solid n) (laid_at s p solid (low_of s n))) i))
 
-    pub part_laid : (n c : ℕ) → c < n → In b (gather show (laid_at s p solid (low_of s c))) → In b (gather show (laid s p solid n))
+    pub part_laid : (n c : ℕ) → c < n → In b (flat_map show (laid_at s p solid (low_of s c))) → In b (flat_map show (laid s p solid n))
     part_laid zero c h i = absurd (omega arith)
     part_laid (suc n) c h i =
-        let before = gather show (laid s p solid n) in
-        let here = gather show (laid_at s p solid (low_of s n)) in
+        let before = flat_map show (laid s p solid n) in
+        let here = flat_map show (laid_at s p solid (low_of s n)) in
         let le : c ≤ n = omega arith in
-        subst (In b) (sym (gather_both show (laid s p solid n) (laid_at s p solid (low_of s n))))
-        (⊎_elim (λ q. in_right b before here (subst (λ m. In b (gather show (laid_at s p solid (low_of s m)))) q i))
+        subst (In b) (sym (flat_map-append show (laid s p solid n) (laid_at s p solid (low_of s n))))
+        (⊎_elim (λ q. in_right b before here (subst (λ m. In b (flat_map show (laid_at s p solid (low_of s m)))) q i))
         (λ l. in_left b before here (part_laid n c l i)) (eq-or-lt_of_le le))
 
   -- An edge that a cube lays is an edge of its triangles.
@@ -80,11 +82,11 @@ module _ (s : Sides) (p : Pair) (solid : Solids) where
 
   -- A corner that a cube lays is a corner of its triangles.
   pub corner_in : (u : Voxel) (m : ℕ) → In m (corners (laid_at s p solid u))
-      → (l : ℕ) × In l (gather cube_corners_of (inner u)) × (m ≡ number_at s u l)
+      → (l : ℕ) × In l (flat_map cube_corners_of (inner u)) × (m ≡ number_at s u l)
   corner_in u m i =
-      map_in (number_at s u) m (gather cube_corners_of (inner u)) (subst (In m) (corners_numbered s u (inner u)) i)
+      map_in (number_at s u) m (flat_map cube_corners_of (inner u)) (subst (In m) (corners_numbered s u (inner u)) i)
 
-  pub in_corner : (u : Voxel) (l : ℕ) → In l (gather cube_corners_of (inner u)) → In (number_at s u l) (corners (laid_at s p solid u))
+  pub in_corner : (u : Voxel) (l : ℕ) → In l (flat_map cube_corners_of (inner u)) → In (number_at s u l) (corners (laid_at s p solid u))
   in_corner u l i =
       subst (In (number_at s u l)) (sym (corners_numbered s u (inner u)))
-      (in_map (number_at s u) l (gather cube_corners_of (inner u)) i)
+      (in_map (number_at s u) l (flat_map cube_corners_of (inner u)) i)

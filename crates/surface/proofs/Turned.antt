@@ -1,17 +1,18 @@
 -- Two neighbours see the graph on the face between them in opposite directions. Assumes nothing.
 use mathlib.Core.Path.{◌≡◌, sym, ap, subst}
-use mathlib.Core.Bool.{Bool, true, false}
+use mathlib.Core.Bool.{Bool, ◌&&◌}
 use mathlib.Core.List.{List}
 use Prim.Native.Nat.{ℕ}
 use lib.Dec.{T}
+use Rattle.std.specs.List.{list_all, list_any}
 use Rattle.grid.specs.declared.axis.Axis.TheVariants.{X, Y, Z}
 use Rattle.grid.specs.declared.voxel.Voxel.{Voxel}
 use Rattle.grid.proofs.Same.{voxel_same}
-use Rattle.cube.specs.Lists.{every, some, In}
+use Rattle.cube.specs.Lists.{In}
 use Rattle.cube.specs.Cube.{solid}
 use Rattle.cube.specs.Graph.{graph_on}
 use Rattle.cube.specs.declared.pair.Connectedness.{Connectedness}
-use Rattle.cube.specs.declared.pair.Connectedness.TheVariants.{Six, Eighteen, TwentySix}
+use Rattle.cube.proofs.Everywhere.{each_at}
 use Rattle.cube.proofs.Listed.{and_left, and_right, every_at, some_at}
 use Rattle.surface.specs.Places.{Solids, kinds_at, link_at}
 use Rattle.surface.proofs.Numbered.{after}
@@ -38,18 +39,16 @@ next_to north u v h = voxel_same v (after Y u) (sym h.0, h.1, sym h.2)
 
 -- Edge g of the neighbour is edge e the other way round.
 abbrev answers : Way → ℕ × ℕ → ℕ × ℕ → Bool
-answers w e g = elim (meets (offset_of w) e.0 g.1) [ true ↦ meets (offset_of w) e.1 g.0 | false ↦ false ]
+answers w e g = meets (offset_of w) e.0 g.1 && meets (offset_of w) e.1 g.0
 
 -- The neighbour walks the face the other way, from the same voxel, and each edge has its answer there.
 abbrev turned : Connectedness → Way → Bool → Bool → Bool → Bool → Bool
 turned s w a b c d =
     let es = walked s (face_of (over w)) a d c b in
-    every (λ e. some (answers w e) es) (walked s (face_of w) a b c d)
+    list_all (λ e. list_any (answers w e) es) (walked s (face_of w) a b c d)
 
-all_turned : (s : Connectedness) → T (every (λ w. sixteen (turned s w)) ways)
-all_turned Six = tt
-all_turned Eighteen = tt
-all_turned TwentySix = tt
+all_turned : (s : Connectedness) → T (list_all (λ w. sixteen (turned s w)) ways)
+all_turned = each_at (λ s. list_all (λ w. sixteen (turned s w)) ways) tt
 
 module _ (s : Connectedness) (solids : Solids) where
   -- The graph on a face by the kinds that the cube on the other side of it sees.
@@ -79,7 +78,7 @@ module _ (s : Connectedness) (solids : Solids) where
       let f = face_of w in
       let k = kinds_at solids u in
       let t = sixteen_at (turned s w) (every_at (λ w. sixteen (turned s w)) ways (all_turned s) w (in_ways w)) (solid k f.a) (solid k f.b) (solid k f.c) (solid k f.d) in
-      let r = some_at (answers w e) (seen w u) (every_at (λ e. some (answers w e) (seen w u)) (graph_on s k f) t e i) in
+      let r = some_at (answers w e) (seen w u) (every_at (λ e. list_any (answers w e) (seen w u)) (graph_on s k f) t e i) in
       let g = r.0 in
       let first = and_left (meets (offset_of w) e.0 g.1) (meets (offset_of w) e.1 g.0) r.2 in
       let second = and_right (meets (offset_of w) e.0 g.1) (meets (offset_of w) e.1 g.0) r.2 in (

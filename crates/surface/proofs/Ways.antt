@@ -1,15 +1,16 @@
 -- The six ways from a cube to a neighbour: two cubes that share two links share a face. Assumes nothing.
 use mathlib.Core.Path.{◌≡◌, refl, sym, subst, ◌∙◌}
 use mathlib.Core.Logic.{◌⊎◌, inl, inr, ⊎_elim}
-use mathlib.Core.Bool.{Bool, true, false}
+use mathlib.Core.Bool.{Bool, true, false, ◌&&◌, ◌||◌}
 use mathlib.Core.List.{List, [], ◌∷◌}
 use Prim.Native.Nat.{ℕ}
 use native.Mathlib.Omega.{arith}
 use lib.Dec.{T, eqb, eqb→eq}
 use lib.ListN.{get_or}
+use Rattle.std.specs.List.{list_all, list_any}
 use Rattle.grid.specs.declared.voxel.Voxel.{Voxel}
 use Rattle.grid.proofs.Same.{voxel_same}
-use Rattle.cube.specs.Lists.{every, some, In}
+use Rattle.cube.specs.Lists.{In}
 use Rattle.cube.specs.Cube.{Face, faces, link_numbers}
 use Rattle.cube.specs.Cutting.{on_face}
 use Rattle.cube.proofs.Listed.{and_left, and_right, or_cases, when, every_at, some_at}
@@ -111,14 +112,11 @@ same_off_is more more t = refl
 
 abbrev same_offset : Offset → Offset → Bool
 same_offset o q =
-    elim (same_off o.0 q.0) [
-      | true ↦ elim (same_off o.1 q.1) [ true ↦ same_off o.2 q.2 | false ↦ false ]
-      | false ↦ false
-    ]
+    same_off o.0 q.0 && (same_off o.1 q.1 && same_off o.2 q.2)
 
 same_offset_is : (o q : Offset) → T (same_offset o q) → o ≡ q
 same_offset_is o q t =
-    let yz = elim (same_off o.1 q.1) as (λ b. Bool) [ true ↦ same_off o.2 q.2 | false ↦ false ] in
+    let yz = same_off o.1 q.1 && same_off o.2 q.2 in
     let r = and_right (same_off o.0 q.0) yz t in
     let x = same_off_is o.0 q.0 (and_left (same_off o.0 q.0) yz t) in
     let y = same_off_is o.1 q.1 (and_left (same_off o.1 q.1) (same_off o.2 q.2) r) in
@@ -127,46 +125,46 @@ same_offset_is o q t =
 
 -- A test passes at every offset.
 abbrev each : (Off → Bool) → Bool
-each f = elim (f less) [ true ↦ elim (f level) [ true ↦ f more | false ↦ false ] | false ↦ false ]
+each f = f less && (f level && f more)
 
 each_at : (f : Off → Bool) → T (each f) → (o : Off) → T (f o)
-each_at f t less = and_left (f less) (elim (f level) [ true ↦ f more | false ↦ false ]) t
-each_at f t level = and_left (f level) (f more) (and_right (f less) (elim (f level) [ true ↦ f more | false ↦ false ]) t)
-each_at f t more = and_right (f level) (f more) (and_right (f less) (elim (f level) [ true ↦ f more | false ↦ false ]) t)
+each_at f t less = and_left (f less) (f level && f more) t
+each_at f t level = and_left (f level) (f more) (and_right (f less) (f level && f more) t)
+each_at f t more = and_right (f level) (f more) (and_right (f less) (f level && f more) t)
 
 abbrev here : Offset
 here = (level, level, level)
 
 -- An offset is that of a way through a face that holds two links.
 abbrev leads : Offset → ℕ → ℕ → Way → Bool
-leads o i k w = elim (same_offset o (offset_of w)) [ true ↦ on_face i k (face_of w) | false ↦ false ]
+leads o i k w = same_offset o (offset_of w) && on_face i k (face_of w)
 
 -- Two cubes that share the links i and k are one cube, or a way leads from one to the other through the face that holds both.
 abbrev reaches : Offset → ℕ → ℕ → Bool
-reaches o i k = elim (same_offset o here) [ true ↦ true | false ↦ some (leads o i k) ways ]
+reaches o i k = same_offset o here || list_any (leads o i k) ways
 
 abbrev then_reaches : Offset → ℕ → ℕ → ℕ → Bool
-then_reaches o i k l = elim (meets o k l) [ true ↦ elim (eqb i k) [ true ↦ true | false ↦ reaches o i k ] | false ↦ true ]
+then_reaches o i k l = elim (meets o k l) [ true ↦ eqb i k || reaches o i k | false ↦ true ]
 
 abbrev shared : Offset → ℕ → ℕ → Bool
-shared o i j = elim (meets o i j) [ true ↦ every (λ k. every (then_reaches o i k) link_numbers) link_numbers | false ↦ true ]
+shared o i j = elim (meets o i j) [ true ↦ list_all (λ k. list_all (then_reaches o i k) link_numbers) link_numbers | false ↦ true ]
 
 abbrev all_links : Offset → Bool
-all_links o = every (λ i. every (shared o i) link_numbers) link_numbers
+all_links o = list_all (λ i. list_all (shared o i) link_numbers) link_numbers
 
 all_shared : T (each λ x. each λ y. each λ z. all_links (x, y, z))
 all_shared = tt
 
 shared_at : (o : Offset) (i j k l : ℕ) → In i link_numbers → In j link_numbers → In k link_numbers → In l link_numbers
-    → T (meets o i j) → T (meets o k l) → T (elim (eqb i k) [ true ↦ true | false ↦ reaches o i k ])
+    → T (meets o i j) → T (meets o k l) → T (eqb i k || reaches o i k)
 shared_at o i j k l hi hj hk hl m n =
     let tx = each_at (λ x. each λ y. each λ z. all_links (x, y, z)) all_shared o.0 in
     let ty = each_at (λ y. each λ z. all_links (o.0, y, z)) tx o.1 in
     let tz = each_at (λ z. all_links (o.0, o.1, z)) ty o.2 in
-    let tj = every_at (shared o i) link_numbers (every_at (λ i. every (shared o i) link_numbers) link_numbers tz i hi) j hj in
-    let rest = when (meets o i j) (every (λ k. every (then_reaches o i k) link_numbers) link_numbers) tj m in
-    let tl = every_at (then_reaches o i k) link_numbers (every_at (λ k. every (then_reaches o i k) link_numbers) link_numbers rest k hk) l hl in
-    when (meets o k l) (elim (eqb i k) [ true ↦ true | false ↦ reaches o i k ]) tl n
+    let tj = every_at (shared o i) link_numbers (every_at (λ i. list_all (shared o i) link_numbers) link_numbers tz i hi) j hj in
+    let rest = when (meets o i j) (list_all (λ k. list_all (then_reaches o i k) link_numbers) link_numbers) tj m in
+    let tl = every_at (then_reaches o i k) link_numbers (every_at (λ k. list_all (then_reaches o i k) link_numbers) link_numbers rest k hk) l hl in
+    when (meets o k l) (eqb i k || reaches o i k) tl n
 
 -- A neighbour is where its offset says.
 stands_once : (o : Off) (a b c : ℕ) → Stands o a b → Stands o a c → b ≡ c
@@ -198,7 +196,7 @@ meeting u v i j k l hi hj hk hl e f two =
     let s = some_at (leads o i k) ways q in
     let on = and_right (same_offset o (offset_of s.0)) (on_face i k (face_of s.0)) s.2 in
     let is = same_offset_is o (offset_of s.0) (and_left (same_offset o (offset_of s.0)) (on_face i k (face_of s.0)) s.2) in
-    inr (s.0, subst (λ o. Related o u v) is r.1, on)) (or_cases (same_offset o here) (some (leads o i k) ways) q))
+    inr (s.0, subst (λ o. Related o u v) is r.1, on)) (or_cases (same_offset o here) (list_any (leads o i k) ways) q))
     (or_cases (eqb i k) (reaches o i k) t)
 
 -- One way at most leads through a face that holds two links.
@@ -210,19 +208,19 @@ one_way_out i k w x =
     ]
 
 abbrev out_once : ℕ → ℕ → Bool
-out_once i k = elim (eqb i k) [ true ↦ true | false ↦ every (λ w. every (one_way_out i k w) ways) ways ]
+out_once i k = eqb i k || list_all (λ w. list_all (one_way_out i k w) ways) ways
 
-all_out_once : T (every (λ i. every (out_once i) link_numbers) link_numbers)
+all_out_once : T (list_all (λ i. list_all (out_once i) link_numbers) link_numbers)
 all_out_once = tt
 
 pub same_way : (i k : ℕ) → In i link_numbers → In k link_numbers → (i ≡ k → ⊥) → (w x : Way)
     → T (on_face i k (face_of w)) → T (on_face i k (face_of x)) → offset_of w ≡ offset_of x
 same_way i k hi hk two w x t q =
-    let at = every_at (out_once i) link_numbers (every_at (λ i. every (out_once i) link_numbers) link_numbers all_out_once i hi) k hk in
+    let at = every_at (out_once i) link_numbers (every_at (λ i. list_all (out_once i) link_numbers) link_numbers all_out_once i hi) k hk in
     ⊎_elim (λ e. absurd (two (eqb→eq i k e)))
     (λ all.
-    let tx = every_at (one_way_out i k w) ways (every_at (λ w. every (one_way_out i k w) ways) ways all w (in_ways w)) x (in_ways x) in
+    let tx = every_at (one_way_out i k w) ways (every_at (λ w. list_all (one_way_out i k w) ways) ways all w (in_ways w)) x (in_ways x) in
     same_offset_is (offset_of w) (offset_of x)
     (when (on_face i k (face_of x)) (same_offset (offset_of w) (offset_of x))
     (when (on_face i k (face_of w)) (elim (on_face i k (face_of x)) [ true ↦ same_offset (offset_of w) (offset_of x) | false ↦ true ]) tx t) q))
-    (or_cases (eqb i k) (every (λ w. every (one_way_out i k w) ways) ways) at)
+    (or_cases (eqb i k) (list_all (λ w. list_all (one_way_out i k w) ways) ways) at)

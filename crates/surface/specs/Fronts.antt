@@ -1,12 +1,13 @@
 -- Where a surface is open: on the faces between drawn and undrawn cubes, and nowhere else. Assumes nothing.
 use Rattle.std.specs.Prelude.{◌≡◌, ◌⊎◌, Bool, not, List, ℕ, ◌≤◌, ◌<◌, T}
+use Rattle.std.specs.List.{list_any}
 use Rattle.grid.specs.Voxels.{OnBorder}
 use Rattle.grid.specs.Links.{next}
 use Rattle.grid.specs.Cubes.{cube_count}
 use Rattle.grid.specs.declared.axis.Axis.{Axis}
 use Rattle.grid.specs.declared.sides.Sides.{Sides}
 use Rattle.grid.specs.declared.voxel.Voxel.{Voxel}
-use Rattle.cube.specs.Lists.{In, some, same}
+use Rattle.cube.specs.Lists.{In, same}
 use Rattle.cube.specs.declared.pair.Pair.{Pair}
 use Rattle.surface.specs.Places.{Solids, links_of, low_of}
 use Rattle.surface.specs.Laid.{laid, edges, back}
@@ -41,7 +42,7 @@ pub record OnFront (s : Sides) (n : ℕ) (e : ℕ × ℕ) : Type 0 where
 
 -- An edge stands among others, as a test.
 abbrev pub among : List (ℕ × ℕ) → ℕ × ℕ → Bool
-among es e = some (same e) es
+among es e = list_any (same e) es
 
 -- Of the laid edges, just those on the front of what is drawn lack their reverse.
 pub record Fronted (s : Sides) (p : Pair) (solid : Solids) (n : ℕ) : Type 0 where

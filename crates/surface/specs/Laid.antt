@@ -1,8 +1,7 @@
 -- The triangles that the cubes of a scan lay, in the scan's link numbers. Assumes nothing.
-use Rattle.std.specs.Prelude.{List, [], ◌∷◌, ◌++◌, map, ℕ, zero, suc}
+use Rattle.std.specs.Prelude.{List, [], ◌∷◌, ◌++◌, map, ℕ, zero, suc, flat_map}
 use Rattle.grid.specs.declared.sides.Sides.{Sides}
 use Rattle.grid.specs.declared.voxel.Voxel.{Voxel}
-use Rattle.cube.specs.Lists.{gather}
 use Rattle.cube.specs.Triangles.{triangles}
 use Rattle.cube.specs.declared.pair.Pair.{Pair}
 use Rattle.cube.specs.declared.triangle.CubeTriangle.{CubeTriangle}
@@ -30,7 +29,7 @@ abbrev pub edges_of : Triangle → List (ℕ × ℕ)
 edges_of t = (t.0, t.1) ∷ (t.1, t.2) ∷ (t.2, t.0) ∷ []
 
 abbrev pub edges : List Triangle → List (ℕ × ℕ)
-edges ts = gather edges_of ts
+edges ts = flat_map edges_of ts
 
 -- The other direction of an edge.
 abbrev pub back : ℕ × ℕ → ℕ × ℕ
@@ -41,7 +40,7 @@ abbrev pub corners_of : Triangle → List ℕ
 corners_of t = t.0 ∷ t.1 ∷ t.2 ∷ []
 
 abbrev pub corners : List Triangle → List ℕ
-corners ts = gather corners_of ts
+corners ts = flat_map corners_of ts
 
 -- A triangle turned over: its last two corners exchanged.
 abbrev pub turn_over : Triangle → Triangle

@@ -1,5 +1,5 @@
 use Rattle.std.proofs.Common.{◌≡◌, ◌+◌, leb, ◌∷◌, ◌++◌, map, vec_items, sym, refl, ap, ◌∙◌, subst}
-use Rattle.cube.specs.Lists.{every}
+use Rattle.std.specs.List.{list_all}
 use Rattle.cube.specs.Cube.{kinds}
 use Rattle.cube.specs.Graph.{graph}
 use Rattle.cube.specs.Laws.{Looped}
@@ -20,14 +20,14 @@ loop-link-preserved c =
     elim c.if-carries_corner.branch [
       | then-carries_corner+in_ok-corners+then-none_below+in_ok-push w ↦
           let loop : vec_items w.in_ok-corners.corners ≡ loop_from es i = w.in_ok-corners.ensures in
-          let low = ap (every (leb i)) (sym loop ∙ sym w.deref.ensures.value) ∙ sym w.none_below.ensures ∙ w.if-none_below.true in
+          let low = ap (list_all (leb i)) (sym loop ∙ sym w.deref.ensures.value) ∙ sym w.none_below.ensures ∙ w.if-none_below.true in
           let next = past_lowest k es i h (sym cross ∙ w.if-carries_corner.true) low in
           read_on vec_items vec_items (loops_past k es (i + 1)) w.found-is w.in_ok-push.ensures.items
           (push_read vec_items found w.in_ok-corners.corners (loops_past k es (i + 1))
           ∙ ap (λ l. map vec_items found ++ (l ∷ loops_past k es (i + 1))) loop ∙ ap (λ ls. map vec_items found ++ ls) (sym next) ∙ c.loop-link.invariant)
       | then-carries_corner+in_ok-corners+else-none_below w ↦
           let loop : vec_items w.in_ok-corners.corners ≡ loop_from es i = w.in_ok-corners.ensures in
-          let low = ap (every (leb i)) (sym loop ∙ sym w.deref.ensures.value) ∙ sym w.none_below.ensures ∙ w.if-none_below.false in
+          let low = ap (list_all (leb i)) (sym loop ∙ sym w.deref.ensures.value) ∙ sym w.none_below.ensures ∙ w.if-none_below.false in
           let next = past_higher k es i h (sym cross ∙ w.if-carries_corner.true) low in
           read_on vec_items vec_items (loops_past k es (i + 1)) w.found-is refl (ap (λ ls. map vec_items found ++ ls) (sym next) ∙ c.loop-link.invariant)
       | else-carries_corner w ↦
