@@ -46,10 +46,11 @@ fn show_loops(rt: &HostRuntime, mask: Mask, s: Connectedness) -> anyhow::Result<
     print!(rt; "    loops:")?;
     let loops = graph::loops(rt.alloc(), mask, s)?;
     for corners in loops.iter() {
-        let mut before = " ";
-        for corner in corners.iter() {
-            print!(rt; "{before}{corner}")?;
-            before = "-";
+        if let [lowest, rest @ ..] = corners.as_slice() {
+            print!(rt; " {lowest}")?;
+            for corner in rest {
+                print!(rt; "-{corner}")?;
+            }
         }
     }
     println!(rt; "")?;
@@ -86,17 +87,13 @@ fn begins_group(mask: Mask, c: Connectedness, first: u8) -> bool {
 
 // How many triangles all masks have together under a pair, and at most.
 fn show_totals(rt: &HostRuntime, pair: Pair) -> anyhow::Result<()> {
-    let mut total = 0usize;
-    let mut most = 0usize;
-    let mut empty = 0usize;
+    let mut counts = Vec::new(rt.alloc());
     for bits in 0..=255u8 {
-        let count = cube::triangles(Mask(bits), pair).triangles().len();
-        total = total.saturating_add(count);
-        most = most.max(count);
-        if count == 0 {
-            empty = empty.saturating_add(1);
-        }
+        counts.push(cube::triangles(Mask(bits), pair).triangles().len())?;
     }
+    let total = counts.iter().fold(0usize, |sum, count| sum.saturating_add(*count));
+    let most = counts.iter().copied().max().unwrap_or(0);
+    let empty = counts.iter().filter(|count| **count == 0).count();
     println!(rt; "  under {pair}: {total} triangles, at most {most} in a cube, none in {empty}")?;
     Ok(())
 }

@@ -2,6 +2,9 @@
 use Rattle.std.specs.Prelude.{ℕ, List, ◌++◌, codes}
 use Rattle.std.specs.Fmt.{decimal}
 use Rattle.grid.specs.Texts.{voxel_text}
+use Rattle.drawing.specs.Closings.{unfinished_number}
+use Rattle.drawing.specs.Endings.{draw_number}
+use Rattle.drawing.specs.Opening.{number}
 use Rattle.drawing.specs.declared.asked.Asked.{Asked}
 use Rattle.drawing.specs.declared.cubes_left.CubesLeft.{CubesLeft}
 use Rattle.drawing.specs.declared.report.Report.{Report}
@@ -27,19 +30,25 @@ asked_text a =
     codes "threshold " ++ (decimal a.test.threshold ++ (codes ", " ++ (letter_text a.test.letter ++ (codes ", (" ++ (decimal a.s ++ (codes "," ++ (decimal a.h ++ codes ")")))))))
 
 -- A refusal is printed by its number and the reason, with the voxel that it tells.
+abbrev pub open_reason : OpenRefusal → List ℕ
+open_reason ThinSide = codes ", a side is 1"
+open_reason ZeroThreshold = codes ", the threshold is 0"
+open_reason NoPair = codes ", no pair has these numbers"
+open_reason (Lacking v f) = codes ", no reading at " ++ voxel_text v
+open_reason (Mixed v) = codes ", the border changes kind at " ++ voxel_text v
+
 abbrev pub open_text : OpenRefusal → List ℕ
-open_text ThinSide = codes "refused with 4, a side is 1"
-open_text ZeroThreshold = codes "refused with 5, the threshold is 0"
-open_text NoPair = codes "refused with 6, no pair has these numbers"
-open_text (Lacking v f) = codes "refused with 7, no reading at " ++ voxel_text v
-open_text (Mixed v) = codes "refused with 8, the border changes kind at " ++ voxel_text v
+open_text e = codes "refused with " ++ (decimal (number e) ++ open_reason e)
+
+abbrev pub draw_reason : DrawRefusal → List ℕ
+draw_reason OtherSides = codes "it has other sides"
+draw_reason ZeroBudget = codes "the budget is 0"
 
 abbrev pub draw_text : DrawRefusal → List ℕ
-draw_text OtherSides = codes "refused with 9, it has other sides"
-draw_text ZeroBudget = codes "refused with 10, the budget is 0"
+draw_text e = codes "refused with " ++ (decimal (draw_number e) ++ (codes ", " ++ draw_reason e))
 
 abbrev pub unfinished_text : Unfinished → List ℕ
-unfinished_text e = codes "refused with 13, cubes are left"
+unfinished_text e = codes "refused with " ++ (decimal (unfinished_number e) ++ codes ", cubes are left")
 
 abbrev pub left_text : CubesLeft → List ℕ
 left_text e = unfinished_text (record {})

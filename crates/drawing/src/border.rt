@@ -14,7 +14,8 @@ pub fn kind_at<S: Scan>(scan: &S, test: SolidTest, voxel: Voxel) -> bool
     scan.read(voxel).is_ok_and(|reading| test.is_solid(reading))
 }
 
-// The voxel on the border with the lowest number that is not of a kind; none if each of them is of it.
+// The voxel on the border with the lowest number that is not of a kind; none if each of them is of it. A kind is a `bool`,
+// whether it is solid: it is only compared, and the solid test answers it.
 pub fn lowest_unlike<S: Scan>(scan: &S, test: SolidTest, kind: bool) -> Option<Voxel>
     ensures { MatchOption result (BorderOf test (S.Scan.means scan.now) kind) (λ v. LowestUnlike test (S.Scan.means scan.now) kind v) }
 {

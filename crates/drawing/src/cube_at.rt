@@ -22,7 +22,7 @@ impl CubeAt {
         Some(CubeAt { sides, low })
     }
 
-    // Voxel i of the cube.
+    // Voxel i of the cube. By axis: a sum of voxels would have to say what it does past the last number.
     pub(crate) fn voxel(self, i: u8) -> Voxel
         requires { i < 8 }
         ensures { result ≡ voxel_at self.low i }

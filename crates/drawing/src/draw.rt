@@ -41,6 +41,7 @@ impl Drawing {
 
     // Draws at most so many cubes into the tray, and tells how far it came and why no further; refused, changing nothing,
     // over a scan of other sides and over a budget of 0.
+    #[tactic(auto, using(grid::proofs::Same::sides_same))]
     pub fn draw<S: Scan, T: Tray>(
         &mut self,
         scan: &S,

@@ -36,6 +36,8 @@ impl Ending {
     }
 }
 
+// The number, if it has one, and the reason. The two numbers are written out: `number` answers an option, which each case
+// would take apart again.
 impl fmt::Display for Ending {
     ghost output = { λ x. Some (ending_text x) };
 
@@ -98,15 +100,16 @@ impl From<DrawRefusal> for u8 {
     }
 }
 
-// The refusal's number and the reason, written out as for an opening.
+// The refusal's number and the reason.
 impl fmt::Display for DrawRefusal {
     ghost output = { λ x. Some (draw_text x) };
 
     fn fmt<W: fmt::Write>(&self, f: &mut fmt::Formatter<W>) -> fmt::Result {
-        match self {
-            DrawRefusal::OtherSides => write!(f, "refused with 9, it has other sides"),
-            DrawRefusal::ZeroBudget => write!(f, "refused with 10, the budget is 0"),
-        }
+        let reason = match self {
+            DrawRefusal::OtherSides => "it has other sides",
+            DrawRefusal::ZeroBudget => "the budget is 0",
+        };
+        write!(f, "refused with {}, {reason}", u8::from(*self))
     }
 }
 

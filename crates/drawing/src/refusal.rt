@@ -58,21 +58,24 @@ impl From<OpenRefusal> for u8 {
     }
 }
 
-// The refusal's number, the reason, and the voxel that it tells. Each is written out: with the number printed by its own
-// call, what a case prints was left open.
+// The refusal's number, the reason, and the voxel that it tells.
 impl fmt::Display for OpenRefusal {
     ghost output = { λ x. Some (open_text x) };
 
     fn fmt<W: fmt::Write>(&self, f: &mut fmt::Formatter<W>) -> fmt::Result {
+        let number = u8::from(*self);
         match self {
-            OpenRefusal::ThinSide => write!(f, "refused with 4, a side is 1"),
-            OpenRefusal::ZeroThreshold => write!(f, "refused with 5, the threshold is 0"),
-            OpenRefusal::NoPair => write!(f, "refused with 6, no pair has these numbers"),
+            OpenRefusal::ThinSide => write!(f, "refused with {number}, a side is 1"),
+            OpenRefusal::ZeroThreshold => write!(f, "refused with {number}, the threshold is 0"),
+            OpenRefusal::NoPair => write!(f, "refused with {number}, no pair has these numbers"),
             OpenRefusal::Lacking { voxel, .. } => {
-                write!(f, "refused with 7, no reading at {voxel}")
+                write!(f, "refused with {number}, no reading at {voxel}")
             }
             OpenRefusal::Mixed { voxel } => {
-                write!(f, "refused with 8, the border changes kind at {voxel}")
+                write!(
+                    f,
+                    "refused with {number}, the border changes kind at {voxel}"
+                )
             }
         }
     }

@@ -24,7 +24,7 @@ impl fmt::Display for Unfinished {
     ghost output = { λ x. Some (unfinished_text x) };
 
     fn fmt<W: fmt::Write>(&self, f: &mut fmt::Formatter<W>) -> fmt::Result {
-        write!(f, "refused with 13, cubes are left")
+        write!(f, "refused with {}, cubes are left", u8::from(*self))
     }
 }
 

@@ -12,9 +12,9 @@ impl Sides {
         requires { F.IsAlwaysCallable answer }
         ensures { MatchOption result (NoneOnBorder self (F.post answer)) (FirstOnBorder self (F.post answer)) }
     {
-        // A `for`, since the proof did not close over `find_map`: it left what the answers before the first are.
+        // A `for`, since the proof did not close over `find_map`: what the answers before the first are was left open.
         for number in 0..self.voxel_count() {
-            let voxel = self.voxel_at(number)?;
+            let voxel = self.voxel_at(number).unwrap();
             if self.on_border(voxel)
                 && let Some(found) = answer(voxel)
             {

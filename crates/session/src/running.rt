@@ -24,9 +24,7 @@ pub fn run<S: Scan, O: Scan, T: Tray>(
 {
     let mut state = State::Unopened;
     for entry in entries.iter_mut() {
-        let (next, answer) = step(scan, others, trays, state, entry.call);
-        state = next;
-        entry.answer = answer;
+        (state, entry.answer) = step(scan, others, trays, state, entry.call);
     }
     state
 }

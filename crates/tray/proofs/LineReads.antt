@@ -36,12 +36,18 @@ thirds bs one rest two three g h =
     record { whole = split_is bs one rest g ∙ ap (λ l. one ++ l) (split_is rest two three h); one_long = g.3; two_long = h.3 }
 
 -- If they are a triangle's line, each third is a cell.
-pub in_thirds : (bs one two three : List ℕ) (t : Triangle) → Thirds bs one two three → bs ≡ line_of t → (one ≡ cell t.first 44) × (two ≡ cell t.second 44) × (three ≡ cell t.third 10)
+abbrev Cells : (one two three : List ℕ) → Triangle → Type 0
+Cells one two three t = (one ≡ cell t.first 44) × (two ≡ cell t.second 44) × (three ≡ cell t.third 10)
+
+cells_of : (bs one two three : List ℕ) (t : Triangle) → Thirds bs one two three → bs ≡ line_of t → Cells one two three t
 unfolding line_of
-in_thirds bs one two three t h e =
+cells_of bs one two three t h e =
     let front = same_parts one (two ++ three) (cell t.first 44) _ 9 h.one_long (length_cell t.first 44) (sym h.whole ∙ e) in
     let back = same_parts two three (cell t.second 44) (cell t.third 10) 9 h.two_long (length_cell t.second 44) front.1 in
     (front.0, back.0, back.1)
+
+pub in_thirds : (bs one rest two three : List ℕ) (t : Triangle) → IsSplitAt bs 9 one rest → IsSplitAt rest 9 two three → bs ≡ line_of t → Cells one two three t
+in_thirds bs one rest two three t g h = cells_of bs one two three t (thirds bs one rest two three g h)
 
 -- What making a triangle of the three numbers tells of the line.
 pub line_read : {E : Type 0} (r : Result Triangle E) (o : Option Triangle) (bs : List ℕ) (a b c : ℕ) → a < 100000000 → b < 100000000 → c < 100000000 → bs ≡ cell a 44 ++ (cell b 44 ++ cell c 10) → o ≡ result_ok r → MatchResult r (λ t. (t.first ≡ a) × (t.second ≡ b) × (t.third ≡ c)) (λ _. Corners a b c → ⊥) → LineRead bs o
@@ -52,7 +58,7 @@ line_read (Err e) o bs a b c x y z whole is refused =
     let none : (t : Triangle) → bs ≡ line_of t → ⊥ =
     λ t same.
     let cut : Thirds bs (cell a 44) (cell b 44) (cell c 10) = record { whole = whole; one_long = length_cell a 44; two_long = length_cell b 44 } in
-    let cells = in_thirds _ _ _ _ t cut same in
+    let cells = cells_of _ _ _ _ t cut same in
     let p = same_cell a t.first 44 x (omega (arith, t.below.0)) cells.0 in
     let q = same_cell b t.second 44 y (omega (arith, t.below.1)) cells.1 in
     let r = same_cell c t.third 10 z (omega (arith, t.below.2)) cells.2 in

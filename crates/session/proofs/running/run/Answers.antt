@@ -18,13 +18,13 @@ loop-entry-preserved g c =
     let i = c.loop-entry.entry-index in
     let lt : i < length es = omega (arith, c.loop-entry-test.true, c.loop-entry.auto.entries) in
     let ts = c.loop-entry.invariant.1.0 in
-    let made = c.step-next.ensures.steps.1 ts in (
-      same_calls es i c.step-next.result.1 _ lt ∙ c.loop-entry.invariant.0,
+    let made = c.step.ensures.steps.1 ts in (
+      same_calls es i c.step.result.1 _ lt ∙ c.loop-entry.invariant.0,
       (
-        ts ++ c.step-next.ensures.steps.0,
-        runs_next m others (start (map holds c.args.trays.now)) (world c.loop-entry.state (map holds c.loop-entry.trays) ts) _ es i c.step-next.result.1 _ lt c.loop-entry.invariant.1.1 made,
+        ts ++ c.step.ensures.steps.0,
+        runs_next m others (start (map holds c.args.trays.now)) (world c.loop-entry.state (map holds c.loop-entry.trays) ts) _ es i c.step.result.1 _ lt c.loop-entry.invariant.1.1 made,
       ),
-      all_then g.T.Tray.lawful c.args.trays.now c.loop-entry.trays _ c.loop-entry.invariant.2 c.step-next.ensures.rest,
+      all_then g.T.Tray.lawful c.args.trays.now c.loop-entry.trays _ c.loop-entry.invariant.2 c.step.ensures.rest,
     )
 
 pub returns-clause-ran : goal.returns-clause-ran

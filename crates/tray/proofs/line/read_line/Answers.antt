@@ -4,18 +4,18 @@ use Rattle.tray.proofs.line.read_line.Goals as goal
 
 pub returns-in_err-first : goal.returns-in_err-first
 returns-in_err-first c =
-    let cut = thirds _ _ _ _ _ c.in_ok-one.ensures.cases c.in_ok-two.ensures.cases in
-    rw c.from_residual-in_err-first.ensures (λ t e. c.in_err-first.ensures t.first (omega (arith, t.below.0)) (in_thirds _ _ _ _ t cut e).0)
+    rw c.from_residual-in_err-first.ensures
+    (λ t e. c.in_err-first.ensures t.first (omega (arith, t.below.0)) (in_thirds _ _ _ _ _ t c.in_ok-one.ensures.cases c.in_ok-two.ensures.cases e).0)
 
 pub returns-in_err-second : goal.returns-in_err-second
 returns-in_err-second c =
-    let cut = thirds _ _ _ _ _ c.in_ok-one.ensures.cases c.in_ok-two.ensures.cases in
-    rw c.from_residual-in_err-second.ensures (λ t e. c.in_err-second.ensures t.second (omega (arith, t.below.1)) (in_thirds _ _ _ _ t cut e).1)
+    rw c.from_residual-in_err-second.ensures
+    (λ t e. c.in_err-second.ensures t.second (omega (arith, t.below.1)) (in_thirds _ _ _ _ _ t c.in_ok-one.ensures.cases c.in_ok-two.ensures.cases e).1)
 
 pub returns-in_err-third : goal.returns-in_err-third
 returns-in_err-third c =
-    let cut = thirds _ _ _ _ _ c.in_ok-one.ensures.cases c.in_ok-two.ensures.cases in
-    rw c.from_residual-in_err-third.ensures (λ t e. c.in_err-third.ensures t.third (omega (arith, t.below.2)) (in_thirds _ _ _ _ t cut e).2)
+    rw c.from_residual-in_err-third.ensures
+    (λ t e. c.in_err-third.ensures t.third (omega (arith, t.below.2)) (in_thirds _ _ _ _ _ t c.in_ok-one.ensures.cases c.in_ok-two.ensures.cases e).2)
 
 pub returns : goal.returns
 returns c =
