@@ -62,7 +62,7 @@ fn draw<S: Scan, T: Tray>(
     ensures tries { Tries (S.Scan.means scan.now) state (map T.Tray.holds trays.old) tray budget result.1 result.0 (map T.Tray.holds trays.new) }
     ensures rest { AllKept T.Tray.holds T.Tray.keeps trays.old trays.new }
 {
-    // By index, here and in `empty`: after `get_mut` nothing is known of the trays.
+    // By index, here and in `empty`: after `get_mut` of a slice nothing is known of its elements.
     if tray >= trays.len() {
         return (state, None);
     }
