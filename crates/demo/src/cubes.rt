@@ -91,7 +91,9 @@ fn show_totals(rt: &HostRuntime, pair: Pair) -> anyhow::Result<()> {
     for bits in 0..=255u8 {
         counts.push(cube::triangles(Mask(bits), pair).triangles().len())?;
     }
-    let total = counts.iter().fold(0usize, |sum, count| sum.saturating_add(*count));
+    let total = counts
+        .iter()
+        .fold(0usize, |sum, count| sum.saturating_add(*count));
     let most = counts.iter().copied().max().unwrap_or(0);
     let empty = counts.iter().filter(|count| **count == 0).count();
     println!(rt; "  under {pair}: {total} triangles, at most {most} in a cube, none in {empty}")?;
