@@ -1,6 +1,7 @@
 // Masks, pairs, triangles and joined voxels on examples.
 use cube::{Connectedness, CubeTriangle as T, Mask, Pair, triangles};
 use graph::joined;
+use std::array;
 
 // Whether a mask lays just these triangles under a pair.
 fn lays(mask: u8, pair: Pair, expected: &[T]) -> bool {
@@ -46,10 +47,7 @@ fn pairs_of_numbers(rt: HostRuntime) {
 fn masks_and_their_voxels(rt: HostRuntime) {
     for bits in 0..=255u8 {
         let m = Mask(bits);
-        let mut voxels = [false; 8];
-        for (i, voxel) in voxels.iter_mut().enumerate() {
-            *voxel = m.is_solid((i % 8) as u8);
-        }
+        let voxels = array::from_fn(|voxel| m.is_solid(voxel as u8));
         assert!(rt; Mask::of(voxels) == m);
         assert!(rt; m.exchanged().exchanged() == m);
     }

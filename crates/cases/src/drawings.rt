@@ -1,19 +1,14 @@
 // Lists of calls on small blocks.
+use crate::block::block;
 use drawing::{
     Asked, DrawRefusal, Ending, Letter, OpenRefusal, Progress, Report, SolidTest, Unfinished,
 };
 use grid::Voxel;
-use scan::{Block, Cause, Fault, Lengths};
-use session::{Answer, Call, Entry, run};
+use scan::{Block, Cause, Fault};
+use session::{Answer, Call, Entry};
 use std::alloc::Global;
 use std::test::Fail;
 use tray::RecordTray;
-
-// A block of spacing 1.
-fn block(heap: Global, x: u32, y: u32, z: u32, values: &[u16]) -> Result<Block, Fail> {
-    let spacing = Lengths { x: 1, y: 1, z: 1 };
-    Ok(Block::new(Lengths { x, y, z }, spacing, values.to_vec(heap)?)?)
-}
 
 // A call that is not made yet.
 fn entry(call: Call) -> Entry {
@@ -44,13 +39,17 @@ fn drawn(drawn: u32, laid: u32, left: u32, ending: Ending) -> Option<Answer> {
     })))
 }
 
+// Makes the calls on a block and some trays, with no other scan.
+fn run(block: &Block, trays: &mut [RecordTray], entries: &mut [Entry]) {
+    let others: [Block; 0] = [];
+    let _ = session::run(block, &others, trays, entries);
+}
+
 // What opening a block of 2 x 2 x 2 values answers.
 fn opened(heap: Global, values: &[u16], threshold: u16) -> Result<Option<Answer>, Fail> {
-    let block = block(heap, 2, 2, 2, values)?;
+    let block = block(heap, [2, 2, 2], values)?;
     let mut entries = [open(threshold)];
-    let others: [Block; 0] = [];
-    let mut trays: [RecordTray; 0] = [];
-    let _ = run(&block, &others, &mut trays, &mut entries);
+    run(&block, &mut [], &mut entries);
     Ok(entries[0].answer)
 }
 
@@ -64,11 +63,7 @@ fn refused_openings(rt: HostRuntime) -> Result<(), Fail> {
     let zero = Some(Answer::Opened(Err(OpenRefusal::ZeroThreshold)));
     assert_eq!(rt; opened(heap, &one, 0)?, zero);
     let voxel = Voxel { x: 1, y: 1, z: 1 };
-    let fault = Fault {
-        cause: Cause::NoReading,
-        at: voxel,
-        passed: 0,
-    };
+    let fault = Fault::own(Cause::NoReading, voxel);
     let lacking = Some(Answer::Opened(Err(OpenRefusal::Lacking { voxel, fault })));
     assert_eq!(rt; opened(heap, &[9, 0, 0, 0, 0, 0, 0, 65_535], 5)?, lacking);
     assert_eq!(rt; opened(heap, &[9; 8], 5)?, Some(Answer::Opened(Ok(()))));
@@ -86,15 +81,14 @@ fn two_voxels() -> [u16; 36] {
 #[test]
 fn two_triangles_want_two_places(rt: HostRuntime) -> Result<(), Fail> {
     let heap = rt.alloc();
-    let block = block(heap, 4, 3, 3, &two_voxels())?;
+    let block = block(heap, [4, 3, 3], &two_voxels())?;
     let mut trays = [
         RecordTray::new(heap, 20)?,
         RecordTray::new(heap, 1)?,
         RecordTray::new(heap, 2)?,
     ];
     let mut entries = [open(5), draw(0, 10), draw(1, 1), draw(2, 1), draw(2, 0)];
-    let others: [Block; 0] = [];
-    let _ = run(&block, &others, &mut trays, &mut entries);
+    run(&block, &mut trays, &mut entries);
     let full = Ending::Full {
         triangles: 2,
         free: 1,
@@ -111,16 +105,11 @@ fn earlier_cubes_stand_at_a_fault(rt: HostRuntime) -> Result<(), Fail> {
     let heap = rt.alloc();
     let mut values = two_voxels();
     values[18] = 65_535;
-    let block = block(heap, 4, 3, 3, &values)?;
+    let block = block(heap, [4, 3, 3], &values)?;
     let mut trays = [RecordTray::new(heap, 20)?];
     let mut entries = [open(5), draw(0, 100), entry(Call::Close)];
-    let others: [Block; 0] = [];
-    let _ = run(&block, &others, &mut trays, &mut entries);
-    let fault = Fault {
-        cause: Cause::NoReading,
-        at: Voxel { x: 2, y: 1, z: 1 },
-        passed: 0,
-    };
+    run(&block, &mut trays, &mut entries);
+    let fault = Fault::own(Cause::NoReading, Voxel { x: 2, y: 1, z: 1 });
     let cube = Voxel { x: 1, y: 0, z: 0 };
     assert_eq!(rt;
         entries[1].answer,
@@ -135,7 +124,7 @@ fn closed_drawing_only_reports(rt: HostRuntime) -> Result<(), Fail> {
     let heap = rt.alloc();
     let mut values = [0u16; 27];
     values[13] = 9;
-    let block = block(heap, 3, 3, 3, &values)?;
+    let block = block(heap, [3, 3, 3], &values)?;
     let mut trays = [RecordTray::new(heap, 8)?];
     let empty = entry(Call::Empty { tray: 0 });
     let mut entries = [
@@ -146,8 +135,7 @@ fn closed_drawing_only_reports(rt: HostRuntime) -> Result<(), Fail> {
         open(5),
         empty,
     ];
-    let others: [Block; 0] = [];
-    let _ = run(&block, &others, &mut trays, &mut entries);
+    run(&block, &mut trays, &mut entries);
     assert_eq!(rt; entries[1].answer, drawn(8, 8, 0, Ending::Done));
     let report = Report {
         cubes: 8,

@@ -2,6 +2,10 @@
 #![tactic(auto)]
 
 #[cfg(test)]
+mod block;
+#[cfg(test)]
 mod cubes;
 #[cfg(test)]
 mod drawings;
+#[cfg(test)]
+mod openings;

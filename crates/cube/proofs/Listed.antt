@@ -1,8 +1,8 @@
 -- What a test over a list tells of its elements. Assumes nothing.
-use Rattle.std.proofs.Common.{◌≡◌, ℕ, Bool, true, false, not, T, eqb, ◌⊎◌, List, [], ◌∷◌, sym, subst, inl, inr, ⊎_elim, eqb→eq, T_not, ◌&&◌, ◌||◌}
+use Rattle.std.proofs.Common.{◌≡◌, ℕ, Bool, true, false, not, T, eqb, List, [], ◌∷◌, sym, subst, inl, inr, ⊎_elim, eqb→eq, T_not, ◌&&◌, ◌||◌}
 use lib.Dec.{eqb_refl}
 use Rattle.std.specs.List.{list_all, list_any}
-use Rattle.std.proofs.Math.Facts.{yes_and, and_yes}
+use Rattle.std.proofs.Math.Facts.{or_yes, yes_and, and_yes}
 use Rattle.cube.specs.Lists.{same, In, Distinct}
 
 -- What two tests joined by 'and', by 'or' and by 'only if' tell of each.
@@ -11,10 +11,6 @@ and_left a b t = (and_yes a b t).0
 
 pub and_right : (a b : Bool) → T (a && b) → T b
 and_right a b t = (and_yes a b t).1
-
-pub or_cases : (a b : Bool) → T (a || b) → T a ⊎ T b
-or_cases true b t = inl tt
-or_cases false b t = inr t
 
 pub or_left : (a b : Bool) → T a → T (a || b)
 or_left true b t = tt
@@ -37,14 +33,14 @@ module _ {A : Type 0} (f : A → Bool) where
   pub some_at : (xs : List A) → T (list_any f xs) → (x : A) × In x xs × T (f x)
   some_at [] t = absurd t
   some_at (y ∷ ys) t =
-      ⊎_elim (λ h. (y, inl mathlib.Core.Path.refl, h)) (λ h. let r = some_at ys h in (r.0, inr r.1, r.2)) (or_cases (f y) (list_any f ys) t)
+      ⊎_elim (λ h. (y, inl mathlib.Core.Path.refl, h)) (λ h. let r = some_at ys h in (r.0, inr r.1, r.2)) (or_yes (f y) (list_any f ys) t)
 
 -- A test that tells equal elements of a type.
 module _ {A : Type 0} (test : A → A → Bool) (right : (x y : A) → T (test x y) → x ≡ y) where
   pub found : (x : A) (ys : List A) → T (list_any (test x) ys) → In x ys
   found x [] t = absurd t
   found x (y ∷ ys) t =
-      ⊎_elim (λ h. inl (right x y h)) (λ h. inr (found x ys h)) (or_cases (test x y) (list_any (test x) ys) t)
+      ⊎_elim (λ h. inl (right x y h)) (λ h. inr (found x ys h)) (or_yes (test x y) (list_any (test x) ys) t)
 
 module _ {A : Type 0} (test : A → A → Bool) (itself : (x : A) → T (test x x)) where
   pub finds : (x : A) (ys : List A) → In x ys → T (list_any (test x) ys)

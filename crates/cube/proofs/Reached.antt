@@ -4,7 +4,8 @@ use Rattle.cube.specs.Cube.{Kinds, solid, voxels}
 use Rattle.cube.specs.Pairs.{Connected, apart, reach}
 use Rattle.cube.specs.Joined.{Joined, one, step, connected, touching, touches, taken, spread, spread_times, begun, seed, reached}
 use Rattle.cube.specs.declared.pair.Connectedness.{Connectedness}
-use Rattle.cube.proofs.Listed.{and_left, and_right, or_cases, some_at}
+use Rattle.std.proofs.Math.Facts.{or_yes}
+use Rattle.cube.proofs.Listed.{and_left, and_right, some_at}
 
 -- A mark at voxel i of a list made voxel by voxel.
 pub at_voxel : (f : ℕ → Bool) (i : ℕ) → T (get_or (map f voxels) i false) → T (f i)
@@ -47,7 +48,7 @@ module _ (c : Connectedness) (k : Kinds) (a : ℕ) where
   sure_spread marked sure i t =
       ⊎_elim (sure i)
       (λ h. touched marked sure i (and_left (solid k i) (touches c marked i) h) (and_right (solid k i) (touches c marked i) h))
-      (or_cases (get_or marked i false) (solid k i && touches c marked i) (at_voxel (taken c k marked) i t))
+      (or_yes (get_or marked i false) (solid k i && touches c marked i) (at_voxel (taken c k marked) i t))
 
   sure_times : (n : ℕ) (marked : List Bool) → Sure marked → Sure (spread_times n c k marked)
   sure_times zero marked sure = sure

@@ -12,7 +12,8 @@ use Rattle.cube.specs.Joined.{Joined, one, step, connected, reached}
 use Rattle.cube.specs.Laws.{edges, corners_of, solid_end, hollow_end, most, Lies}
 use Rattle.cube.specs.declared.pair.Connectedness.{Connectedness}
 use Rattle.cube.specs.declared.pair.Pair.{Pair}
-use Rattle.cube.proofs.Listed.{or_cases, when, every_at, some_at, found, distinct, distinct_is, same_is, same_itself, and_left, and_right}
+use Rattle.std.proofs.Math.Facts.{or_yes}
+use Rattle.cube.proofs.Listed.{when, every_at, some_at, found, distinct, distinct_is, same_is, same_itself, and_left, and_right}
 use Rattle.cube.proofs.Reached.{connected_is, reached_joined}
 
 -- One step leads from a to b, or several do.
@@ -33,8 +34,8 @@ meets_joined c k a b t =
     ⊎_elim (λ h. subst (Joined c k a) (eqb→eq a b h) (one from-a))
     (λ h.
     ⊎_elim (λ n. step (one from-a) (connected_is c a b n) to-b) (reached_joined c k a b)
-    (or_cases (connected c a b) (get_or (reached c k a) b false) h))
-    (or_cases (eqb a b) (near c k a b) rest)
+    (or_yes (connected c a b) (get_or (reached c k a) b false) h))
+    (or_yes (eqb a b) (near c k a b) rest)
 
 -- Each edge of the list that lies on a face is an edge of that face's graph.
 abbrev on_its_graph : Pair → Kinds → ℕ × ℕ → Face → Bool
@@ -105,7 +106,7 @@ module _ (p : Pair) (k : Kinds) (es : List (ℕ × ℕ)) where
     back e i off =
         let at-e = every_at (chord_back es) es (and_left (list_all (chord_back es) es) (list_all (ends_meet p k) es) t₃) e i in
         ⊎_elim (λ h. let r = some_at (on_face e.0 e.1) faces h in absurd (off r.0 r.1 r.2))
-        (found same same_is (e.1, e.0) es) (or_cases (together e.0 e.1) (list_any (same (e.1, e.0)) es) at-e)
+        (found same same_is (e.1, e.0) es) (or_yes (together e.0 e.1) (list_any (same (e.1, e.0)) es) at-e)
 
     ends_at : (e : ℕ × ℕ) → In e es → T (ends_meet p k e)
     ends_at = every_at (ends_meet p k) es (and_right (list_all (chord_back es) es) (list_all (ends_meet p k) es) t₃)

@@ -1,19 +1,15 @@
 -- The tube of a mask from the two triangles that its row has. Assumes nothing.
 use Rattle.std.proofs.Common.{◌≡◌, ℕ, ◌≤◌, Bool, true, false, T, leb, List, length, get_or, take, sym, refl, ap, ◌∙◌, subst, ap₂, arith, leb→le, length-take, get_or-take, ◌&&◌}
 use Rattle.cube.specs.Cube.{Kinds}
-use Rattle.cube.specs.Cutting.{triangle}
 use Rattle.cube.specs.Triangles.{cut_all, opposite, tube, with_tube}
 use Rattle.cube.specs.Loops.{loops}
 use Rattle.cube.specs.Tubes.{tube_between}
-use Rattle.cube.specs.Rows.{same_triangles}
+use Rattle.cube.specs.Rows.{same_triangles, none}
 use Rattle.cube.specs.declared.pair.Connectedness.TheVariants.{Eighteen, TwentySix}
 use Rattle.cube.specs.declared.triangle.CubeTriangle.{CubeTriangle}
 use Rattle.cube.proofs.Listed.{when, and_left, and_right}
 use Rattle.cube.proofs.Everywhere.{everywhere}
 use Rattle.cube.proofs.Masks.{same_lists}
-
-abbrev pub none : CubeTriangle
-none = triangle 0 0 0
 
 -- Where two voxels are opposite, the row has two triangles, and the tube is the one between them.
 abbrev tubed : Kinds → Bool

@@ -1,5 +1,5 @@
 -- How a loop is cut into triangles. Assumes nothing.
-use Rattle.std.specs.Prelude.{ℕ, zero, suc, ◌+◌, Bool, true, false, List, [], ◌∷◌, ◌++◌, map, length, ℤ, pos, ◌+ℤ◌, ◌-ℤ◌, ◌*ℤ◌, int_le, nat_eq, nat_lt, slice_index, ◌&&◌, ◌||◌, flat_map, filter}
+use Rattle.std.specs.Prelude.{ℕ, zero, suc, ◌+◌, Bool, true, false, List, [], ◌∷◌, ◌++◌, map, length, ℤ, pos, ◌+ℤ◌, ◌-ℤ◌, ◌*ℤ◌, int_le, nat_eq, nat_lt, slice_index, ◌&&◌, ◌||◌, flat_map, filter, not}
 use Rattle.std.specs.List.{list_all, list_any}
 use Rattle.cube.specs.Lists.{first, same}
 use Rattle.cube.specs.Cube.{Face, faces, face_links, Kinds, solid, voxels, lower, upper, dx, dy, dz}
@@ -57,7 +57,7 @@ behind p q r ws = let n = cross (minus q p) (minus r p) in list_all (λ w. int_l
 
 -- Two corners may bound a triangle: they are neighbours in the loop, or no face holds both.
 abbrev pub may_join : List (ℕ × ℕ) → ℕ → ℕ → Bool
-may_join es p q = elim (neighbours es p q) [ true ↦ true | false ↦ elim (together p q) [ true ↦ false | false ↦ true ] ]
+may_join es p q = neighbours es p q || not (together p q)
 
 -- A triangle is allowed: no side of it runs along a face unless it is a side of the loop, and the body lies behind it.
 abbrev pub allowed : List (ℕ × ℕ) → List Point → ℕ → ℕ → ℕ → Bool

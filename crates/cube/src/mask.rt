@@ -4,7 +4,8 @@ ghost use Rattle.cube.specs.Cube.{kinds, kinds_in, exchange, solid, crossing};
 
 use crate::links::ends;
 
-// Bit i is set where voxel i is solid; voxel dx + 2 dy + 4 dz lies dx, dy, dz from the cube's low voxel.
+// Bit i is set where voxel i is solid; voxel dx + 2 dy + 4 dz lies dx, dy, dz from the cube's low voxel. Contracts speak
+// both of the number and of its `kinds`, and so name the one that they mean.
 #[derive(Clone, Copy, PartialEq, Eq, Debug)]
 pub struct Mask(pub u8);
 

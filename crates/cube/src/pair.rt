@@ -32,7 +32,7 @@ impl Pair {
         }
     }
 
-    // The connectedness of hollow.
+    // The connectedness of hollow. Written out as that of solid is: from the swapped pair it would have to be worked out.
     pub fn hollow(self) -> Connectedness
         ensures { result ≡ of_hollow self }
     {

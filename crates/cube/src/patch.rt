@@ -5,6 +5,7 @@ use crate::triangle::CubeTriangle;
 
 // At most six triangles, in the order in which they are laid; what stands behind the last of them says nothing.
 // With a count beside the places: with an ArrayVec in their stead the patches of all masks took three times as long.
+// Contracts say what a patch lays by one word, `laid`.
 #[derive(Clone, Copy)]
 pub struct Patch {
     pub(crate) count: u8,

@@ -2,7 +2,8 @@
 use crate::triangle::CubeTriangle as T;
 
 // How many triangles a mask has, and the places that hold these; the others say nothing.
-// Five fields: the check does not cover a table of structs, or of tuples, that hold an array.
+// Five fields: tried with arrays in a struct and in a tuple, and with slices; the check does not cover such a table, and
+// does not finish the last.
 #[derive(Clone, Copy)]
 pub struct Row {
     pub count: u8,
@@ -16,7 +17,7 @@ pub struct Row {
 // Fills a row up.
 pub const NONE: T = T(0, 0, 0);
 
-// A row of up to five triangles.
+// A row of up to five triangles. An arm for each count: fields cannot be filled up from a list.
 macro_rules! row {
     () => {
         Row {

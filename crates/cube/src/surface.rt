@@ -12,7 +12,8 @@ use crate::patch::Patch;
 use crate::table::row_of;
 use crate::tube::with_tube;
 
-// The triangles by the rules: from the table, with the tube, or from the exchanged mask under the swapped pair.
+// The triangles by the rules: from the table, with the tube, or from the exchanged mask under the swapped pair. A line for
+// each pair, as the rules have it; apart from `triangles`, whose laws are proved from this.
 fn by_pair(mask: Mask, pair: Pair) -> Patch
     ensures { laid result ≡ the-triangles pair (kinds mask.0) }
 {

@@ -10,7 +10,8 @@ use crate::pair::Connectedness;
 use crate::patch::Patch;
 use crate::rows::{NONE, ROWS, Row};
 
-// The triangles of a mask in any table that has the rules' triangles at every mask.
+// The triangles of a mask in any table that has the rules' triangles at every mask, which is the place of its row. Apart
+// from `row_of`, so that its proof does not compute with the rows.
 fn pick(table: &[Row; 256], mask: Mask) -> Patch
     requires { Ruled table.now }
     ensures { laid result ≡ cut_all Connectedness.Eighteen (kinds mask.0) }

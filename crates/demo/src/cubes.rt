@@ -87,10 +87,9 @@ fn begins_group(mask: Mask, c: Connectedness, first: u8) -> bool {
 
 // How many triangles all masks have together under a pair, and at most.
 fn show_totals(rt: &HostRuntime, pair: Pair) -> anyhow::Result<()> {
-    let mut counts = Vec::new(rt.alloc());
-    for bits in 0..=255u8 {
-        counts.push(cube::triangles(Mask(bits), pair).triangles().len())?;
-    }
+    let counts: Vec<usize> = (0..=255u8)
+        .map(|bits| cube::triangles(Mask(bits), pair).triangles().len())
+        .collect(rt.alloc())?;
     let total = counts
         .iter()
         .fold(0usize, |sum, count| sum.saturating_add(*count));

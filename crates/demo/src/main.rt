@@ -6,13 +6,9 @@ mod openings;
 mod scans;
 mod trays;
 
-fn run(rt: &HostRuntime) -> anyhow::Result<()> {
-    cubes::show(rt)?;
-    scans::show(rt)?;
-    openings::show(rt)?;
-    trays::show(rt)
-}
-
 fn main(rt: HostRuntime) -> anyhow::Result<()> {
-    run(&rt)
+    cubes::show(&rt)?;
+    scans::show(&rt)?;
+    openings::show(&rt)?;
+    trays::show(&rt)
 }

@@ -32,7 +32,7 @@ fn open(rt: &HostRuntime, phantom: &Phantom, asked: Asked) -> anyhow::Result<()>
     Ok(())
 }
 
-// A refusal by its number, with the voxel that it tells: shorter than it prints itself.
+// A refusal by its number, with the voxel that it tells: its output is that of before refusals printed themselves.
 fn show_refusal(rt: &HostRuntime, refusal: OpenRefusal) -> anyhow::Result<()> {
     let number = u8::from(refusal);
     match refusal {

@@ -27,7 +27,7 @@ fn show_housing(rt: &HostRuntime, side: u32) -> anyhow::Result<()> {
 
 // The same length along each axis.
 pub(crate) fn all(n: u32) -> Lengths {
-    Lengths { x: n, y: n, z: n }
+    [n; 3].into()
 }
 
 // Two bores through a box, along x and along y, one voxel apart; the bores come first, so that they count.

@@ -4,7 +4,7 @@ use mathlib.Core.List.{map-append}
 use lib.ListN.{length-map}
 use Rattle.std.proofs.lemmas.List.{take_more}
 use Rattle.cube.specs.Lists.{In}
-use Rattle.tray.specs.Holding.{Held, Lawful, Put, added_all}
+use Rattle.tray.specs.Holding.{Held, KeepsRest, Lawful, Put, added_all}
 use Rattle.tray.specs.declared.tray.Full.{Full}
 use Rattle.tray.specs.declared.triangle.Triangle.{Triangle}
 use Rattle.tray.proofs.Trays.{Laid, laid_none, laid_more}
@@ -16,10 +16,6 @@ at_in [] i d h = absurd (omega arith)
 at_in (x ∷ xs) zero d h = inl refl
 at_in (x ∷ xs) (suc i) d h = inr (at_in xs i d (omega arith))
 
--- One more of the front of a list, mapped.
-pub map_more : {A B : Type 0} (f : A → B) (xs : List A) (i : ℕ) (d : A) → i < length xs → map f (take (i + 1) xs) ≡ map f (take i xs) ++ f (get_or xs i d) ∷ []
-map_more f xs i d h = ap (map f) (take_more xs i d h) ∙ map-append f (take i xs) (get_or xs i d ∷ [])
-
 -- Two lists go in one after the other as one list does.
 pub added_both : (h : Held) (ts us : List Triangle) → added_all (added_all h ts) us ≡ added_all h (ts ++ us)
 added_both h ts us =
@@ -30,15 +26,9 @@ module _ {S : Type 0} {holds : S → Held} {keeps : ℕ → S → S → Type 0} 
   went : {s e : S} {us : List (ℕ × ℕ × ℕ)} (h : LaidIn holds keeps s e us) → Laid holds keeps s h.triangles e
   went h = record { fit = h.fit; list = h.list; rest = h.rest }
 
-  -- Nothing is laid yet.
-  pub lays_none : (s : S) → LaidIn holds keeps s s []
-  lays_none s =
-      let none = laid_none lawful s in
-      record { triangles = []; corner = refl; fit = none.fit; list = none.list; rest = none.rest }
-
   -- One triangle more, where there is room for it.
   pub lays_more : (s m e : S) (us : List (ℕ × ℕ × ℕ)) (t : Triangle) (r : Result (Unit {0}) Full) → LaidIn holds keeps s m us
-      → length us < (holds s).free → Put (holds m) t r (holds e) → keeps (length (holds e).list) m e → LaidIn holds keeps s e (us ++ corners t ∷ [])
+      → length us < (holds s).free → Put (holds m) t r (holds e) → KeepsRest holds keeps m e → LaidIn holds keeps s e (us ++ corners t ∷ [])
   lays_more s m e us t r h room put kept =
       let ts = h.triangles in
       let fits : length ts < (holds s).free = omega (arith, sym (length-map ts corners) ∙ ap length h.corner) in

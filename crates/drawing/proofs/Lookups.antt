@@ -1,11 +1,7 @@
--- A look-up finds what cannot be missing, and errors are mapped alone. Assumes nothing.
+-- Errors are mapped alone. Assumes nothing.
 use Rattle.std.proofs.Common.{◌≡◌, Option, None, Some, MatchOption, Result, Ok, Err, MatchResult, refl, subst}
 use Rattle.std.specs.Option.{IsSome}
 use Rattle.std.specs.Result.{IsErrAnd}
-
-pub some_of : {A : Type 0} (o : Option A) (P : Type 0) (Q : A → Type 0) → MatchOption o P Q → (P → ⊥) → IsSome o
-some_of None P Q h never = absurd (never h)
-some_of (Some x) P Q h never = refl
 
 -- What is there after the errors of a result are mapped was there before.
 pub ok_before : {A E D : Type 0} (r : Result A E) (s : Result A D) (P : E → D → Type 0) (x : A)

@@ -12,7 +12,7 @@ abbrev pub unfinished_number : Unfinished → ℕ
 unfinished_number refusal = 13
 
 abbrev pub close_number : CubesLeft → ℕ
-close_number refusal = 13
+close_number refusal = unfinished_number (record {})
 
 -- A drawing is closed as it is when no cube is left, and else handed back as it was.
 abbrev pub Closes : Drawing → Result Closed CubesLeft → Type 0

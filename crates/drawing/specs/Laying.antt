@@ -6,7 +6,7 @@ use Rattle.cube.specs.Lists.{In}
 use Rattle.cube.specs.declared.triangle.CubeTriangle.{CubeTriangle}
 use Rattle.scan.specs.Meaning.{Meaning}
 use Rattle.scan.specs.declared.fault.Fault.{Fault}
-use Rattle.tray.specs.Holding.{Held, added_all}
+use Rattle.tray.specs.Holding.{Held, added_all, KeepsRest}
 use Rattle.tray.specs.declared.triangle.Triangle.{Triangle}
 use Rattle.surface.specs.Places.{low_of}
 use Rattle.surface.specs.Laid.{laid, laid_at, numbered}
@@ -46,7 +46,7 @@ pub record LaidIn {S : Type 0} (holds : S → Held) (keeps : ℕ → S → S →
   pub corner : map corners triangles ≡ us
   pub fit : length triangles ≤ (holds before).free
   pub list : holds after ≡ added_all (holds before) triangles
-  pub rest : keeps (length (holds after).list) before after
+  pub rest : KeepsRest holds keeps before after
 
 -- Why cube n is not drawn, with so many places free: it lacks a reading, or it has more triangles.
 abbrev pub Halts : Meaning → Drawing → ℕ → ℕ → Ending → Type 0

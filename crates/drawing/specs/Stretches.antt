@@ -1,7 +1,7 @@
 -- Cubes drawn in a row, up to a number or to the first that cannot be drawn. Assumes nothing.
 use Rattle.std.specs.Prelude.{◌≡◌, ℕ, ◌+◌, ◌*◌, ◌<◌, ◌≤◌, cond, List, ◌++◌, map, length, Some, None, Option, MatchOption, ◌==◌}
 use Rattle.scan.specs.Meaning.{Meaning}
-use Rattle.tray.specs.Holding.{Held, added_all}
+use Rattle.tray.specs.Holding.{Held, added_all, KeepsRest}
 use Rattle.tray.specs.declared.triangle.Triangle.{Triangle}
 use Rattle.surface.specs.Places.{low_of}
 use Rattle.drawing.specs.Laying.{corners, surface, Readable, Halts}
@@ -17,7 +17,7 @@ pub record Reached {S : Type 0} (holds : S → Held) (keeps : ℕ → S → S �
   pub read : (c : ℕ) → d.cubes ≤ c → c < n → Readable m (low_of d.sides c)
   pub fit : length triangles ≤ (holds before).free
   pub list : holds after ≡ added_all (holds before) triangles
-  pub rest : keeps (length (holds after).list) before after
+  pub rest : KeepsRest holds keeps before after
   pub count : laid ≡ length triangles
   pub few : laid + 6 * d.cubes ≤ 6 * n
 

@@ -57,9 +57,10 @@ left_text e = unfinished_text (record {})
 abbrev pub ending_text : Ending → List ℕ
 ending_text ending.Done = codes "done"
 ending_text ending.Budget = codes "the budget is used up"
-ending_text (ending.Lacking cube fault) = codes "stopped with 11, no reading in the cube at " ++ voxel_text cube
+ending_text (ending.Lacking cube fault) =
+    codes "stopped with " ++ (decimal 11 ++ (codes ", no reading in the cube at " ++ voxel_text cube))
 ending_text (ending.Full triangles free) =
-    codes "stopped with 12, the next cube has " ++ (decimal triangles ++ (codes " triangles, free places: " ++ decimal free))
+    codes "stopped with " ++ (decimal 12 ++ (codes ", the next cube has " ++ (decimal triangles ++ (codes " triangles, free places: " ++ decimal free))))
 
 -- What a draw did is printed by its numbers, and how it ended.
 abbrev pub progress_text : Progress → List ℕ

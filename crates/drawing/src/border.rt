@@ -7,6 +7,9 @@ use crate::letter::SolidTest;
 use grid::Voxel;
 use scan::Scan;
 
+// A scan and the test of what is solid go side by side, here and in reading: a struct of both would be made for one
+// question, and would borrow the scan.
+
 // Whether a voxel of a scan has a reading that is solid.
 pub fn kind_at<S: Scan>(scan: &S, test: SolidTest, voxel: Voxel) -> bool
     ensures { result ≡ solids_of test (S.Scan.means scan.now) voxel }

@@ -22,7 +22,8 @@ impl CubeAt {
         Some(CubeAt { sides, low })
     }
 
-    // Voxel i of the cube. By axis: a sum of voxels would have to say what it does past the last number.
+    // Voxel i of the cube. By axis: a sum of voxels would ask its callers to stay below the last number, and no public call
+    // here asks anything of its callers.
     pub(crate) fn voxel(self, i: u8) -> Voxel
         requires { i < 8 }
         ensures { result ≡ voxel_at self.low i }
@@ -34,7 +35,8 @@ impl CubeAt {
         }
     }
 
-    // A link of the cube. Its number is bounded by a clause: a type for it would be taken apart at once.
+    // A link of the cube. Its number is bounded by a clause, here and in the calls on it: it comes from the table of triangles,
+    // whose places are plain numbers, and a type for it would be made and taken apart for one look-up.
     fn link(self, link: u8) -> Link
         requires { link < 12 }
         ensures { result ≡ link_at self.low link }

@@ -31,7 +31,7 @@ pub struct SolidTest {
 }
 
 impl SolidTest {
-    // Whether a voxel with that reading is solid; else it is hollow.
+    // Whether a voxel with that reading is solid; else it is hollow. By the letter: two comparisons, each said by the rules.
     pub fn is_solid(self, reading: u16) -> bool
         ensures { result ≡ is_solid self reading }
     {

@@ -18,8 +18,6 @@ mod reading;
 mod refusal;
 mod report;
 mod stretch;
-#[cfg(test)]
-mod tests;
 mod unfinished;
 
 pub use asked::Asked;

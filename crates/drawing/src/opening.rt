@@ -12,7 +12,8 @@ use scan::{Scan, lowest_lacking};
 
 impl Drawing {
     // A drawing of the scan, with no cube drawn; refused, the first that applies, over a side of 1, the threshold, the pair,
-    // a voxel on the border that lacks a reading, and a border of two kinds.
+    // a voxel on the border that lacks a reading, and a border of two kinds. With `if let`: there a voxel that is found is
+    // the refusal, and `?` passes on that none is.
     pub fn open<S: Scan>(scan: &S, asked: Asked) -> Result<Drawing, OpenRefusal>
         ensures { Opened (S.Scan.means scan.now) asked result }
     {

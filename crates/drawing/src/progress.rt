@@ -8,6 +8,11 @@ use scan::Fault;
 use std::error::Error;
 use std::fmt;
 
+// The numbers of the two endings that stop a draw before its budget.
+const LACKING: u8 = 11;
+
+const FULL: u8 = 12;
+
 // How a draw ended.
 #[derive(Clone, Copy, PartialEq, Eq, Debug)]
 pub enum Ending {
@@ -30,14 +35,13 @@ impl Ending {
         match self {
             Ending::Done => None,
             Ending::Budget => None,
-            Ending::Lacking { .. } => Some(11),
-            Ending::Full { .. } => Some(12),
+            Ending::Lacking { .. } => Some(LACKING),
+            Ending::Full { .. } => Some(FULL),
         }
     }
 }
 
-// The number, if it has one, and the reason. The two numbers are written out: `number` answers an option, which each case
-// would take apart again.
+// The number, if it has one, and the reason.
 impl fmt::Display for Ending {
     ghost output = { λ x. Some (ending_text x) };
 
@@ -46,11 +50,14 @@ impl fmt::Display for Ending {
             Ending::Done => write!(f, "done"),
             Ending::Budget => write!(f, "the budget is used up"),
             Ending::Lacking { cube, .. } => {
-                write!(f, "stopped with 11, no reading in the cube at {cube}")
+                write!(
+                    f,
+                    "stopped with {LACKING}, no reading in the cube at {cube}"
+                )
             }
             Ending::Full { triangles, free } => write!(
                 f,
-                "stopped with 12, the next cube has {triangles} triangles, free places: {free}"
+                "stopped with {FULL}, the next cube has {triangles} triangles, free places: {free}"
             ),
         }
     }

@@ -18,7 +18,7 @@ pub enum OpenRefusal {
     ZeroThreshold,
     // The two numbers are those of none of the four pairs.
     NoPair,
-    // This voxel on the border lacks a reading; no lower one on the border does.
+    // This voxel on the border lacks a reading; no lower one on the border does. Its two values by name, as in the other cases.
     Lacking { voxel: Voxel, fault: Fault },
     // This voxel on the border is unlike voxel 0; no lower one on the border is.
     Mixed { voxel: Voxel },

@@ -3,7 +3,7 @@ use crate::housing;
 use anyhow::anyhow;
 use cube::Pair;
 use drawing::{Asked, Letter};
-use scan::{Cutout, Lengths, Phantom, Scan};
+use scan::{Cutout, Phantom, Scan};
 use session::{Call, Entry, State};
 use std::alloc::{AllocError, Global};
 use tray::{RecordTray, Tray};
@@ -21,14 +21,15 @@ pub(crate) fn show(rt: &HostRuntime) -> anyhow::Result<()> {
     )?;
     println!(rt; "Tray 0 has {FEW} places, tray 1 has {MANY}")?;
     let phantom = housing::phantom(rt.alloc(), 7)?;
-    println!(rt; "Drawn under (18,6), with refusals on the way")?;
-    let first = draw_by(rt, &phantom, &with_refusals())?;
-    housing::show_touching(rt, &phantom, Pair::S18H6)?;
+    let pair = Pair::S18H6;
+    println!(rt; "Drawn under {pair}, with refusals on the way")?;
+    let first = draw_by(rt, &phantom, &with_refusals(pair))?;
+    housing::show_touching(rt, &phantom, pair)?;
     for pair in [Pair::S26H6, Pair::S6H18, Pair::S6H26] {
         show_pair(rt, &phantom, pair, first)?;
     }
     println!(rt; "The first with solid and hollow exchanged")?;
-    let swapped = over_two_trays(Letter::L, Pair::S18H6.swapped());
+    let swapped = over_two_trays(Letter::L, pair.swapped());
     let count = draw_by(rt, &phantom, &swapped)?;
     compare(rt, first, count)?;
     show_cutouts(rt, &phantom)
@@ -38,9 +39,9 @@ pub(crate) fn show(rt: &HostRuntime) -> anyhow::Result<()> {
 fn show_cutouts(rt: &HostRuntime, phantom: &Phantom) -> anyhow::Result<()> {
     let calls = [Call::Open(housing::asked(Letter::H, Pair::S18H6))];
     println!(rt; "Cut-outs of it that are not opened")?;
-    let thin = Cutout::new(phantom, [0, 0, 0].into(), Lengths { x: 6, y: 7, z: 1 });
+    let thin = Cutout::new(phantom, [0, 0, 0].into(), [6, 7, 1].into());
     make(rt, &thin, &mut [], &calls)?;
-    let bare = Cutout::new(phantom, [1, 1, 1].into(), Lengths { x: 4, y: 5, z: 5 });
+    let bare = Cutout::new(phantom, [1, 1, 1].into(), [4, 5, 5].into());
     make(rt, &bare, &mut [], &calls)?;
     Ok(())
 }
@@ -64,8 +65,8 @@ fn compare(rt: &HostRuntime, first: u32, count: u32) -> anyhow::Result<()> {
 }
 
 // Calls that are refused, and tray 0 emptied each time that it is full.
-fn with_refusals() -> [Call; 14] {
-    let asked = housing::asked(Letter::H, Pair::S18H6);
+fn with_refusals(pair: Pair) -> [Call; 14] {
+    let asked = housing::asked(Letter::H, pair);
     let mut none_solid = asked;
     none_solid.test.threshold = 0;
     [

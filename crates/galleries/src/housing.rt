@@ -2,7 +2,7 @@
 use anyhow::Context;
 use cube::{Mask, Pair};
 use drawing::{Asked, Letter, SolidTest, cube_mask};
-use scan::{Lengths, Phantom, Scan, Shape};
+use scan::{Phantom, Scan, Shape};
 use std::alloc::{AllocError, Global};
 
 // Metal reads 1000, and whatever is not metal 0.
@@ -25,17 +25,8 @@ pub(crate) fn asked(letter: Letter, pair: Pair) -> Asked {
 
 // The housing as far up as that many voxels, 50 micrometres apart; 7 show the whole.
 pub(crate) fn phantom(heap: Global, height: u32) -> anyhow::Result<Phantom> {
-    let lengths = Lengths {
-        x: 6,
-        y: 7,
-        z: height,
-    };
-    let spacing = Lengths {
-        x: 50,
-        y: 50,
-        z: 50,
-    };
-    Ok(Phantom::new(lengths, spacing, shapes(heap)?)?)
+    let lengths = [6, 7, height].into();
+    Ok(Phantom::new(lengths, [50; 3].into(), shapes(heap)?)?)
 }
 
 // A gallery along x through the housing with a side arm, one across it that is closed all around, and the solid around both.

@@ -5,11 +5,7 @@ mod drawings;
 mod housing;
 mod totals;
 
-fn run(rt: &HostRuntime) -> anyhow::Result<()> {
-    drawings::show(rt)?;
-    totals::show(rt)
-}
-
 fn main(rt: HostRuntime) -> anyhow::Result<()> {
-    run(&rt)
+    drawings::show(&rt)?;
+    totals::show(&rt)
 }

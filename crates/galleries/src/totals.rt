@@ -10,14 +10,15 @@ use tray::RecordTray;
 pub(crate) fn show(rt: &HostRuntime) -> anyhow::Result<()> {
     let phantom = housing::phantom(rt.alloc(), 7)?;
     let mut tray = RecordTray::new(rt.alloc(), 400)?;
-    let report = drawn_whole(&phantom, &mut tray).context("the housing is not drawn")?;
-    println!(rt; "Drawn at one go under (18,6): {report}")?;
+    let pair = Pair::S18H6;
+    let report = drawn_whole(&phantom, &mut tray, pair).context("the housing is not drawn")?;
+    println!(rt; "Drawn at one go under {pair}: {report}")?;
     Ok(())
 }
 
 // The totals of the scan drawn into the tray; none where it is refused or the tray is too small.
-fn drawn_whole(phantom: &Phantom, tray: &mut RecordTray) -> Option<Report> {
-    let mut drawing = Drawing::open(phantom, housing::asked(Letter::H, Pair::S18H6)).ok()?;
+fn drawn_whole(phantom: &Phantom, tray: &mut RecordTray, pair: Pair) -> Option<Report> {
+    let mut drawing = Drawing::open(phantom, housing::asked(Letter::H, pair)).ok()?;
     drawing.draw(phantom, tray, 200).ok()?;
     let closed = drawing.close().ok()?;
     Some(closed.report())

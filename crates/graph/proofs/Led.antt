@@ -1,5 +1,5 @@
 -- Tables of walks that lead as the graph does, at one link. Assumes nothing.
-use Rattle.std.proofs.Common.{◌≡◌, ℕ, ◌<◌, T, eqb, ltb, List, eqb→eq, ltb→lt, ◌&&◌}
+use Rattle.std.proofs.Common.{◌≡◌, ℕ, ◌<◌, eqb, ltb, List, eqb→eq, ltb→lt, ◌&&◌}
 use Rattle.cube.specs.Cube.{Kinds, link_numbers}
 use Rattle.cube.specs.Graph.{graph}
 use Rattle.cube.specs.Loops.{next}

@@ -8,7 +8,8 @@ use crate::solid::Solid;
 use cube::{Connectedness, Mask};
 use std::array;
 
-// Whether two voxels of a cube are connected: they differ in at least one coordinate and in no more than allowed.
+// Whether two voxels of a cube are connected: they differ in at least one coordinate and in no more than allowed. By axis,
+// since coordinates are what is counted.
 pub fn connected(c: Connectedness, i: u8, j: u8) -> bool
     ensures { result ≡ is_connected c i j }
 {
@@ -33,7 +34,7 @@ impl Solid {
         (0..8).any(|j| marked[j as usize] && connected(self.connectedness, j, i))
     }
 
-    // Whether voxel i is marked, or is solid and connected to a marked one.
+    // Whether voxel i is marked, or is solid and connected to a marked one. A mark stands at its voxel's number.
     fn takes(self, marked: &[bool; 8], i: u8) -> bool
         requires { i < 8 }
         ensures { result ≡ taken self.connectedness (kinds_of self) marked.now i }
@@ -55,7 +56,7 @@ impl Solid {
         array::from_fn(|i| i == a as usize && self.mask.is_solid(a))
     }
 
-    // What seven steps from voxel a reach.
+    // What seven steps from voxel a reach. The steps are counted: no step is at anything.
     fn reached(self, a: u8) -> [bool; 8]
         ensures { result ≡ reached self.connectedness (kinds_of self) a }
     {

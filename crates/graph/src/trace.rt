@@ -16,7 +16,7 @@ use std::alloc::{AllocError, Global};
 // Four calls want a link below twelve, each by a clause: a type for it would be taken apart at once, for the table and for
 // the list of corners, which hold plain numbers.
 impl Solid {
-    // The link of the end that belongs to the start at a walk's first step.
+    // The link of the end that belongs to the start at a walk's first step: the next end, or under six the end before it.
     fn end_of(self, walk: Walk) -> u8
         ensures { result ≡ ahead self.connectedness (kinds_of self) walk }
     {
@@ -32,7 +32,7 @@ impl Solid {
         }
     }
 
-    // Where a table of walks leads from a link: the link itself where it carries no corner.
+    // Where a table of walks leads from a link, which is its place there: the link itself where it carries no corner.
     fn by_walks(self, walks: &[BothWays; 12], link: u8) -> u8
         requires { link < 12 }
         ensures { result ≡ by_walks walks.now self.connectedness (kinds_of self) link }
@@ -45,7 +45,8 @@ impl Solid {
         }
     }
 
-    // Where the edge from a link leads, by any table that leads as the graph does.
+    // Where the edge from a link leads, by any table that leads as the graph does. Apart from the two calls beside it, so
+    // that the proof computes with the walks just once.
     fn follow(self, walks: &[BothWays; 12], link: u8) -> u8
         requires table { Leads walks.now }
         requires link { link < 12 }
@@ -62,7 +63,7 @@ impl Solid {
         self.follow(&WALKS, link)
     }
 
-    // The corners of the loop through a link, from that link along its direction.
+    // The corners of the loop through a link, from that link along its direction; the steps are counted, twelve at most.
     fn loop_from(self, heap: Global, link: u8) -> Result<Vec<u8>, AllocError>
         requires { link < 12 }
         ensures { IfOk result (λ v. v.items ≡ loop_from (edges_of self) link) }
@@ -87,7 +88,7 @@ fn none_below(corners: &[u8], link: u8) -> bool
     corners.iter().all(|corner| link <= *corner)
 }
 
-// The loops of a cube's graph, each from its lowest link along its direction, in the order of these.
+// The loops of a cube's graph, each from its lowest link along its direction, in the order of these: links are numbers.
 pub fn loops(heap: Global, mask: Mask, s: Connectedness) -> Result<Vec<Vec<u8>>, AllocError>
     ensures value { IfOk result (λ v. map vec_items v.items ≡ the-loops s (kinds mask.0)) }
     ensures laws { IfOk result (λ v. Looped (kinds mask.0) (map vec_items v.items)) }

@@ -5,7 +5,8 @@ ghost use Rattle.grid.specs.Cubes.{CubeNumbered, Low, cube_count};
 use crate::sides::Sides;
 use crate::voxel::Voxel;
 
-// The three calls on cubes and the three on voxels stay apart, one line each over a box: each speaks of its own.
+// The three calls on cubes and the three on voxels stay apart, one line each over a box: a caller asks for a cube's number
+// or a voxel's, and would have to name the box each time.
 impl Sides {
     // How many cubes of eight voxels the scan has: none where a side is 1.
     pub fn cube_count(self) -> u32

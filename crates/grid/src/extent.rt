@@ -3,7 +3,7 @@ ghost use Rattle.std.specs.Prelude.{◌≡◌, ◌≤◌, MatchBool, MatchOption
 
 use crate::voxel::Voxel;
 
-// How many places a box has along each axis, at most 256.
+// How many places a box has along each axis, at most 256: the counts and numbers of voxels and of cubes are worked out once.
 #[derive(Clone, Copy)]
 pub(crate) struct Extent {
     pub(crate) x: u32,
@@ -15,14 +15,14 @@ pub(crate) struct Extent {
 impl Extent {
     ghost use Rattle.grid.specs.Extents.{PlaceNumbered, Within, places_of};
 
-    // Whether the box holds the place.
+    // Whether the box holds the place. By axis.
     pub(crate) fn holds(self, v: Voxel) -> bool
         ensures { MatchBool result (Within self v) (Within self v → ⊥) }
     {
         v.x < self.x && v.y < self.y && v.z < self.z
     }
 
-    // How many places the box has.
+    // How many places the box has. The bound stands in the contracts of each count, for callers that reckon on with it.
     #[tactic(auto, using(crate::proofs::Numbering::count_bound))]
     pub(crate) fn count(self) -> u32
         ensures { (result ≡ places_of self) × (result ≤ 16777216) }
@@ -30,7 +30,7 @@ impl Extent {
         self.x * (self.y * self.z)
     }
 
-    // The number of a place; none outside the box.
+    // The number of a place; none outside the box. With `if`: it can be worked out only for a place in the box.
     #[tactic(auto, using(crate::proofs::Numbering::rows_bound))]
     pub(crate) fn number(self, v: Voxel) -> Option<u32>
         ensures { MatchOption result (Within self v → ⊥) (PlaceNumbered self v) }

@@ -15,7 +15,7 @@ pub struct Sides {
 }
 
 impl Sides {
-    // The sides x, y and z, or none if one of them is outside 1 to 256.
+    // The sides x, y and z, or none if one of them is outside 1 to 256. With `if`: sides can be made only where all are inside.
     pub fn new(x: u32, y: u32, z: u32) -> Option<Sides>
         ensures { MatchOption result (Side x × Side y × Side z → ⊥) (λ s. (s.x ≡ x) × (s.y ≡ y) × (s.z ≡ z)) }
     {
@@ -27,7 +27,7 @@ impl Sides {
         }
     }
 
-    // How many voxels lie along x.
+    // How many voxels lie along x. Three calls by name: with the axis to be named, each use would write it and match it.
     pub fn x(self) -> u32
         ensures { (result ≡ self.x) × Side result }
     {
@@ -59,7 +59,7 @@ impl Sides {
         }
     }
 
-    // The box of the scan's cubes, one fewer than its voxels along each axis.
+    // The box of the scan's cubes, one fewer than its voxels along each axis: the two boxes by name, and not by that number.
     pub(crate) fn cubes(self) -> Extent
         ensures { (result.x ≡ self.x - 1) × (result.y ≡ self.y - 1) × (result.z ≡ self.z - 1) }
     {

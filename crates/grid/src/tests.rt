@@ -2,6 +2,11 @@
 use crate::*;
 use std::test::Fail;
 
+// Sides that are within their range.
+fn made(x: u32, y: u32, z: u32) -> Result<Sides, Fail> {
+    Sides::new(x, y, z).ok_or(Fail::new("sides within their range"))
+}
+
 #[test]
 fn sides_within_their_range(rt: HostRuntime) {
     let table = [
@@ -18,9 +23,7 @@ fn sides_within_their_range(rt: HostRuntime) {
 
 #[test]
 fn voxels_and_numbers(rt: HostRuntime) -> Result<(), Fail> {
-    let Some(sides) = Sides::new(3, 4, 5) else {
-        return Err(Fail::new("sides within their range"));
-    };
+    let sides = made(3, 4, 5)?;
     let table = [
         (Voxel::from([0, 0, 0]), Some(0), true),
         (Voxel::from([1, 0, 0]), Some(1), true),
@@ -45,9 +48,7 @@ fn voxels_and_numbers(rt: HostRuntime) -> Result<(), Fail> {
 
 #[test]
 fn links_and_numbers(rt: HostRuntime) -> Result<(), Fail> {
-    let Some(sides) = Sides::new(3, 3, 3) else {
-        return Err(Fail::new("sides within their range"));
-    };
+    let sides = made(3, 3, 3)?;
     let z = Link {
         lower: Voxel::from([1, 1, 1]),
         axis: Axis::Z,
@@ -69,17 +70,13 @@ fn links_and_numbers(rt: HostRuntime) -> Result<(), Fail> {
 
 #[test]
 fn cubes_and_numbers(rt: HostRuntime) -> Result<(), Fail> {
-    let Some(sides) = Sides::new(3, 4, 5) else {
-        return Err(Fail::new("sides within their range"));
-    };
+    let sides = made(3, 4, 5)?;
     assert_eq!(rt; sides.cube_count(), 24);
     assert_eq!(rt; sides.cube_at(9), Some(Voxel::from([1, 1, 1])));
     assert_eq!(rt; sides.cube_number(Voxel::from([1, 1, 1])), Some(9));
     assert_eq!(rt; sides.cube_number(Voxel::from([2, 0, 0])), None);
     assert_eq!(rt; sides.cube_at(24), None);
-    let Some(flat) = Sides::new(3, 1, 5) else {
-        return Err(Fail::new("sides within their range"));
-    };
+    let flat = made(3, 1, 5)?;
     assert_eq!(rt; flat.cube_count(), 0);
     assert_eq!(rt; flat.cube_at(0), None);
     Ok(())
@@ -87,9 +84,7 @@ fn cubes_and_numbers(rt: HostRuntime) -> Result<(), Fail> {
 
 #[test]
 fn the_first_answer_on_a_border(rt: HostRuntime) -> Result<(), Fail> {
-    let Some(sides) = Sides::new(3, 3, 3) else {
-        return Err(Fail::new("sides within their range"));
-    };
+    let sides = made(3, 3, 3)?;
     let high = sides.first_on_border(|v| (v.z == 1).then_some(v));
     assert_eq!(rt; high, Some(Voxel::from([0, 0, 1])));
     let inner = sides.first_on_border(|v| (v == Voxel::from([1, 1, 1])).then_some(v));

@@ -4,7 +4,8 @@ ghost use Rattle.grid.specs.Texts.{voxel_text};
 
 use std::fmt;
 
-// A place by its three coordinates, which may lie outside any scan.
+// A place by its three coordinates, which may lie outside any scan. They are named, and what is asked of each is written
+// for each, here and in the crates above: a list of three would be made for a question and taken apart again.
 #[derive(Clone, Copy, PartialEq, Eq, Debug)]
 pub struct Voxel {
     pub x: u32,

@@ -34,7 +34,7 @@ impl Sides {
         self.voxels().at(number)
     }
 
-    // Whether the voxel lies in the scan with a coordinate that is 0 or the last along its axis.
+    // Whether the voxel lies in the scan with a coordinate that is 0 or the last along its axis. By axis.
     pub fn on_border(self, v: Voxel) -> bool
         ensures { MatchBool result (OnBorder self v) (OnBorder self v → ⊥) }
     {

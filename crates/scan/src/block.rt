@@ -15,10 +15,11 @@ use crate::scan::Scan;
 use crate::spacing::Spacing;
 use grid::{Sides, Voxel};
 
-// The value that stands for no reading.
+// The value that stands for no reading: blocks come as lists of 16-bit values, with this mark in them.
 const NO_READING: u16 = 65_535;
 
-// Values in voxel order, one for each voxel; 65,535 means that the voxel has no reading.
+// Values in voxel order, one for each voxel; 65,535 means that the voxel has no reading. A voxel's number is the place of
+// its value.
 #[derive(Drop)]
 pub struct Block {
     sides: Sides,

@@ -6,7 +6,7 @@ ghost use Rattle.scan.specs.Cuts.{clip_length, clip_low, cut_low, cut_sides};
 use crate::lengths::Lengths;
 use grid::{Sides, Voxel};
 
-// A side comes as a number, with its bound in a clause: `Sides` gives it so, and nothing else takes one. Each axis is named:
+// A side comes as a number, with its bound in a clause, since `Sides` gives it so. Each axis is named:
 // lists of three sides, lengths and coordinates would be made and taken apart for one call each.
 
 // The corner along one axis: one past the end goes back to the last voxel.

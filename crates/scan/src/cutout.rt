@@ -47,7 +47,8 @@ impl<S: Scan> Scan for Cutout<S> {
             return Err(Fault::own(Cause::Outside, place));
         }
         let corner = clip::corner(self.below.sides(), self.low);
-        // By axis, as the voxel of a cube is: a sum of voxels would have to say what it does past the last number.
+        // By axis, as the voxel of a cube is: a sum of voxels would ask its callers to stay below the last number, and no public
+        // call here asks anything of its callers.
         let shown = Voxel {
             x: corner.x + place.x,
             y: corner.y + place.y,

@@ -1,4 +1,5 @@
 // Three lengths as a caller gives them.
+ghost use Rattle.std.specs.Prelude.{◌≡◌, [], ◌∷◌};
 ghost use Rattle.scan.specs.Making.{GivesSides};
 
 use crate::refusal::Refusal;
@@ -11,6 +12,16 @@ pub struct Lengths {
     pub x: u32,
     pub y: u32,
     pub z: u32,
+}
+
+// The lengths along x, y and z.
+impl From<[u32; 3]> for Lengths {
+    ghost from_gives = { λ lengths l. lengths ≡ l.x ∷ l.y ∷ l.z ∷ [] };
+
+    fn from(lengths: [u32; 3]) -> Lengths {
+        let [x, y, z] = lengths;
+        Lengths { x, y, z }
+    }
 }
 
 // The sides of these lengths; refused over the size if one of them is outside 1 to 256.

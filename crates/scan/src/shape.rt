@@ -21,7 +21,7 @@ impl Shape {
         Shape { low, high, value }
     }
 
-    // Whether the voxel lies in the box.
+    // Whether the voxel lies in the box. By axis.
     pub fn covers(self, v: Voxel) -> bool
         ensures { MatchBool result (Covers self v) (Covers self v → ⊥) }
     {
@@ -38,7 +38,7 @@ impl Shape {
     }
 }
 
-// Whether a shape may have that corner.
+// Whether a shape may have that corner. By axis.
 fn corner_fits(v: Voxel) -> bool
     ensures { MatchBool result (CornerFits v) (CornerFits v → ⊥) }
 {

@@ -7,7 +7,8 @@ use crate::refusal::Refusal;
 use grid::Axis;
 
 // The way from one voxel to the next along each axis, 1 to 10,000 whole micrometres. Apart from sides, though both
-// are three bounded numbers: as one type with its bound as a parameter, each clause on a scan would name 256.
+// are three bounded numbers: all that they share is that test. Sides count voxels, links and cubes; a spacing is asked along
+// an axis.
 #[derive(Clone, Copy, PartialEq, Eq, Debug)]
 pub struct Spacing {
     x: u32,

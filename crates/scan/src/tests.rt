@@ -4,10 +4,6 @@ use grid::{Axis, Voxel};
 use std::alloc::{AllocError, Global};
 use std::test::Fail;
 
-fn lengths(x: u32, y: u32, z: u32) -> Lengths {
-    Lengths { x, y, z }
-}
-
 fn fault(cause: Cause, at: Voxel, passed: u8) -> Result<u16, Fault> {
     Err(Fault { cause, at, passed })
 }
@@ -35,7 +31,7 @@ fn a_fault_counts_the_scans_up_to_255(rt: HostRuntime) {
 #[test]
 fn a_block_reads_in_voxel_order(rt: HostRuntime) -> Result<(), Fail> {
     let values = vec![in rt.alloc(); 10, 11, 12, 13, 14, 15, 16, 65_535, 65_534, 19, 20, 21]?;
-    let block = Block::new(lengths(2, 3, 2), lengths(1, 10_000, 7), values)?;
+    let block = Block::new([2, 3, 2].into(), [1, 10_000, 7].into(), values)?;
     let table = [
         (Voxel::from([0, 0, 0]), Ok(10)),
         (Voxel::from([1, 0, 0]), Ok(11)),
@@ -75,24 +71,24 @@ fn refusal<T: Drop>(made: Result<T, Refusal>) -> Option<u8> {
 #[test]
 fn the_first_refusal_is_told(rt: HostRuntime) -> Result<(), Fail> {
     let blocks = [
-        (lengths(1, 1, 256), lengths(1, 1, 1), 256, None),
-        (lengths(1, 1, 257), lengths(1, 1, 1), 257, Some(1)),
-        (lengths(0, 1, 1), lengths(1, 1, 1), 0, Some(1)),
-        (lengths(2, 2, 2), lengths(0, 1, 1), 7, Some(1)),
-        (lengths(2, 2, 2), lengths(1, 1, 0), 8, Some(2)),
-        (lengths(2, 2, 2), lengths(1, 10_001, 1), 8, Some(2)),
+        ([1, 1, 256].into(), [1, 1, 1].into(), 256, None),
+        ([1, 1, 257].into(), [1, 1, 1].into(), 257, Some(1)),
+        ([0, 1, 1].into(), [1, 1, 1].into(), 0, Some(1)),
+        ([2, 2, 2].into(), [0, 1, 1].into(), 7, Some(1)),
+        ([2, 2, 2].into(), [1, 1, 0].into(), 8, Some(2)),
+        ([2, 2, 2].into(), [1, 10_001, 1].into(), 8, Some(2)),
     ];
     for (sides, spacing, count, told) in blocks {
         let values = vec![in rt.alloc(); 0; count]?;
         assert_eq!(rt; refusal(Block::new(sides, spacing, values)), told);
     }
     let phantoms = [
-        (lengths(1, 1, 1), lengths(1, 1, 1), 255, 65_534, 64, None),
-        (lengths(257, 1, 1), lengths(0, 1, 1), 255, 1, 65, Some(1)),
-        (lengths(1, 1, 1), lengths(0, 1, 1), 255, 1, 65, Some(2)),
-        (lengths(1, 1, 1), lengths(1, 1, 1), 255, 1, 65, Some(3)),
-        (lengths(1, 1, 1), lengths(1, 1, 1), 256, 1, 1, Some(3)),
-        (lengths(1, 1, 1), lengths(1, 1, 1), 255, 65_535, 1, Some(3)),
+        ([1, 1, 1].into(), [1, 1, 1].into(), 255, 65_534, 64, None),
+        ([257, 1, 1].into(), [0, 1, 1].into(), 255, 1, 65, Some(1)),
+        ([1, 1, 1].into(), [0, 1, 1].into(), 255, 1, 65, Some(2)),
+        ([1, 1, 1].into(), [1, 1, 1].into(), 255, 1, 65, Some(3)),
+        ([1, 1, 1].into(), [1, 1, 1].into(), 256, 1, 1, Some(3)),
+        ([1, 1, 1].into(), [1, 1, 1].into(), 255, 65_535, 1, Some(3)),
     ];
     for (sides, spacing, high, value, count, told) in phantoms {
         let shape = Shape {
@@ -128,7 +124,7 @@ fn bored(heap: Global) -> Result<Vec<Shape>, AllocError> {
 
 #[test]
 fn a_phantom_reads_its_first_shape(rt: HostRuntime) -> Result<(), Fail> {
-    let phantom = Phantom::new(lengths(5, 4, 3), lengths(2, 2, 2), bored(rt.alloc())?)?;
+    let phantom = Phantom::new([5, 4, 3].into(), [2, 2, 2].into(), bored(rt.alloc())?)?;
     let table = [
         (Voxel::from([0, 0, 0]), Ok(0)),
         (Voxel::from([1, 0, 0]), Ok(900)),
@@ -153,8 +149,8 @@ fn a_cut_out_shows_a_box(rt: HostRuntime) -> Result<(), Fail> {
     assert!(rt; values.len() == 60);
     values[33] = 65_535;
     values[59] = 6;
-    let block = Block::new(lengths(5, 4, 3), lengths(3, 2, 1), values)?;
-    let part = Cutout::new(&block, Voxel::from([2, 1, 1]), lengths(2, 9, 0));
+    let block = Block::new([5, 4, 3].into(), [3, 2, 1].into(), values)?;
+    let part = Cutout::new(&block, Voxel::from([2, 1, 1]), [2, 9, 0].into());
     assert_eq!(rt; part.sides().x(), 2);
     assert_eq!(rt; part.sides().y(), 3);
     assert_eq!(rt; part.sides().z(), 1);
@@ -167,12 +163,12 @@ fn a_cut_out_shows_a_box(rt: HostRuntime) -> Result<(), Fail> {
         fault(Cause::Outside, Voxel::from([0, 0, 1]), 0)
     );
     assert_eq!(rt; part.spacing().along(Axis::X), 3);
-    let within = Cutout::new(part, Voxel::from([1, 1, 7]), lengths(1, 1, 1));
+    let within = Cutout::new(part, Voxel::from([1, 1, 7]), [1, 1, 1].into());
     assert_eq!(rt;
         within.read(Voxel::from([0, 0, 0])),
         fault(Cause::NoReading, Voxel::from([3, 2, 1]), 2)
     );
-    let last = Cutout::new(&block, Voxel::from([9, 9, 9]), lengths(4, 4, 4));
+    let last = Cutout::new(&block, Voxel::from([9, 9, 9]), [4, 4, 4].into());
     assert_eq!(rt; last.sides().x(), 1);
     assert_eq!(rt; last.read(Voxel::from([0, 0, 0])), Ok(6));
     Ok(())
@@ -185,7 +181,7 @@ fn the_lowest_border_voxel_without_a_reading(rt: HostRuntime) -> Result<(), Fail
         let mut values = vec![in rt.alloc(); 5; 27]?;
         assert!(rt; bare < values.len());
         values[bare] = 65_535;
-        let block = Block::new(lengths(3, 3, 3), lengths(1, 1, 1), values)?;
+        let block = Block::new([3, 3, 3].into(), [1, 1, 1].into(), values)?;
         let found = lowest_lacking(&block).and_then(|lacking| block
             .sides()
             .voxel_number(lacking.fault.at));

@@ -4,7 +4,7 @@ use lib.ListN.{length-map}
 use Rattle.std.proofs.lemmas.List.{get_or_default}
 use Rattle.std.proofs.lemmas.Bool.{cases_eq}
 use Rattle.scan.specs.Meaning.{Meaning}
-use Rattle.tray.specs.Holding.{Held, Lawful, places}
+use Rattle.tray.specs.Holding.{Held, Lawful, places, KeepsRest}
 use Rattle.tray.proofs.Trays.{places_all}
 use Rattle.drawing.specs.Draws.{Draws}
 use Rattle.drawing.specs.Laying.{corners, surface}
@@ -39,7 +39,7 @@ module _ {T : Type 0} {holds : T → Held} {keeps : ℕ → T → T → Type 0} 
       }
 
   -- What changes nothing past the places in use keeps a tray whose number of places stays.
-  pub kept_by : (x y : T) → places (holds y) ≡ places (holds x) → keeps (length (holds y).list) x y → Kept holds keeps x y
+  pub kept_by : (x y : T) → places (holds y) ≡ places (holds x) → KeepsRest holds keeps x y → Kept holds keeps x y
   kept_by x y e h =
       let k = places (holds x) in
       record { same = e; rest = lawful.steps _ _ k x y y (omega (arith, e)) (omega arith) h (lawful.stays k y) }

@@ -1,7 +1,8 @@
 // The calls that can be listed, and their answers.
 use drawing::{Asked, DrawRefusal, OpenRefusal, Progress, Report, Unfinished};
 
-// One call. A tray, and a scan other than the one that is drawn, goes by its place in a list.
+// One call. A tray, and a scan other than the one that is drawn, goes by its place in a list: a list of calls cannot hold the
+// trays that it changes. Tray and budget are two numbers, and a struct of them would have no use but here.
 #[derive(Clone, Copy, PartialEq, Eq, Debug)]
 pub enum Call {
     // Opens the scan.
@@ -11,7 +12,7 @@ pub enum Call {
         tray: usize,
         budget: u32,
     },
-    // Tries the same with another scan, which has other sides.
+    // Tries the same with another scan, which has other sides: a case of its own, since it is refused or not made.
     DrawOther {
         other: usize,
         tray: usize,

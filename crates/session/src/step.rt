@@ -14,6 +14,8 @@ use tray::Tray;
 // What goes along with a call, scans and trays, goes as it is lent: a struct of shared and exclusive loans would be taken
 // apart by each call. What a call leaves of the trays is one word, `AllKept`.
 
+// A call is listed and compared by the laws, so that it is data and no closure.
+
 // Makes one call where things stand, and answers how they stand then and what the call answered.
 pub(crate) fn step<S: Scan, O: Scan, T: Tray>(
     scan: &S,
@@ -38,7 +40,8 @@ pub(crate) fn step<S: Scan, O: Scan, T: Tray>(
     }
 }
 
-// Opens the scan, if nothing was opened yet.
+// Opens the scan, if nothing was opened yet. Here and in `close` each case gives both how things stand and an answer, which
+// `map` and `map_err` would give one at a time.
 fn open<S: Scan>(scan: &S, state: State, asked: Asked) -> (State, Option<Answer>)
     ensures { StepsAlone (S.Scan.means scan.now) state (Open asked) result.1 result.0 }
 {

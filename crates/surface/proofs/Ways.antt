@@ -13,7 +13,8 @@ use Rattle.grid.proofs.Same.{voxel_same}
 use Rattle.cube.specs.Lists.{In}
 use Rattle.cube.specs.Cube.{Face, faces, link_numbers}
 use Rattle.cube.specs.Cutting.{on_face}
-use Rattle.cube.proofs.Listed.{and_left, and_right, or_cases, when, every_at, some_at}
+use Rattle.std.proofs.Math.Facts.{or_yes}
+use Rattle.cube.proofs.Listed.{and_left, and_right, when, every_at, some_at}
 use Rattle.surface.specs.Places.{link_at}
 use Rattle.surface.proofs.Offsets.{Off, less, level, more, Stands, Offset, Related, meets, same_meets, related}
 
@@ -196,8 +197,8 @@ meeting u v i j k l hi hj hk hl e f two =
     let s = some_at (leads o i k) ways q in
     let on = and_right (same_offset o (offset_of s.0)) (on_face i k (face_of s.0)) s.2 in
     let is = same_offset_is o (offset_of s.0) (and_left (same_offset o (offset_of s.0)) (on_face i k (face_of s.0)) s.2) in
-    inr (s.0, subst (λ o. Related o u v) is r.1, on)) (or_cases (same_offset o here) (list_any (leads o i k) ways) q))
-    (or_cases (eqb i k) (reaches o i k) t)
+    inr (s.0, subst (λ o. Related o u v) is r.1, on)) (or_yes (same_offset o here) (list_any (leads o i k) ways) q))
+    (or_yes (eqb i k) (reaches o i k) t)
 
 -- One way at most leads through a face that holds two links.
 abbrev one_way_out : ℕ → ℕ → Way → Way → Bool
@@ -223,4 +224,4 @@ same_way i k hi hk two w x t q =
     same_offset_is (offset_of w) (offset_of x)
     (when (on_face i k (face_of x)) (same_offset (offset_of w) (offset_of x))
     (when (on_face i k (face_of w)) (elim (on_face i k (face_of x)) [ true ↦ same_offset (offset_of w) (offset_of x) | false ↦ true ]) tx t) q))
-    (or_cases (eqb i k) (list_all (λ w. list_all (one_way_out i k w) ways) ways) at)
+    (or_yes (eqb i k) (list_all (λ w. list_all (one_way_out i k w) ways) ways) at)

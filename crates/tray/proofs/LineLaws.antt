@@ -87,8 +87,3 @@ confirmed_is : (bs : List ℕ) (o : Option Triangle) (t : Triangle) → confirme
 unfolding confirmed
 confirmed_is bs None t e = let z : ◌≡◌ {A = ℕ} 0 1 = cc in absurd (omega arith)
 confirmed_is bs (Some s) t e = kept_is s t (List-discrete ℕ_discrete bs (line_of s)) e
-
--- Writing what is read: bytes that spell a triangle are its line.
-pub line_spelled : (bs : List ℕ) (t : Triangle) → spelled bs ≡ Some t → bs ≡ line_of t
-unfolding spelled
-line_spelled bs t e = confirmed_is bs _ t e

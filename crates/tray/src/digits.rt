@@ -2,7 +2,7 @@
 ghost use Rattle.std.specs.Prelude.{◌≡◌, ℕ, ◌+◌, ◌%◌, ◌<◌, ◌≤◌, length, IfSome, MatchOption, ◌≢◌};
 ghost use Rattle.tray.specs.Decimal.{digits, value_after};
 
-// Eight digits write the numbers below this.
+// Eight digits write the numbers below this. Contracts have the number itself: it is what a reader of them looks for.
 const NUMBERS: u64 = 100_000_000;
 
 // The eight digits of a number, zeros in front; none for a number of more digits.

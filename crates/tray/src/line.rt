@@ -45,7 +45,7 @@ pub fn write_line_at(bytes: &mut [u8], n: usize, triangle: Triangle) -> Result<(
     Ok(())
 }
 
-// Writes the line of a triangle over 27 bytes.
+// Writes the line of a triangle over 27 bytes. The three corners by name, here and in reading: the last has another mark.
 #[tactic(auto, unfolding(crate::specs::Lines::line_of))]
 fn write_line(line: &mut [u8], triangle: Triangle)
     requires { length line.old ≡ 27 }
@@ -64,10 +64,9 @@ fn write_cell(bytes: &mut [u8], number: u32, mark: Mark)
     requires { length bytes.old ≡ 9 }
     ensures { bytes.new ≡ cell number (mark_byte mark) }
 {
-    if let Some((last, digits)) = bytes.split_last_mut() {
-        write_digits(digits, number.into());
-        *last = mark.into();
-    }
+    let (last, digits) = bytes.split_last_mut().unwrap();
+    write_digits(digits, number.into());
+    *last = mark.into();
 }
 
 // The triangle whose line stands in place n; none where the 27 bytes from 27 n on, or fewer at the end, are the line of no triangle.

@@ -14,12 +14,10 @@ pub fn pour<S: Tray, T: Tray>(from: &S, into: &mut T) -> usize
     let held = from.held();
     // By place: the trait tells its triangles by place, and a `while let` over `nth` would count by hand.
     for n in 0..held {
-        let Some(triangle) = from.nth(n) else {
+        let triangle = from.nth(n).unwrap();
+        if into.put(triangle).is_err() {
             return n;
-        };
-        let Ok(()) = into.put(triangle) else {
-            return n;
-        };
+        }
     }
     held
 }

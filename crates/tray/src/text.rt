@@ -48,7 +48,7 @@ pub fn write(list: &[Triangle], bytes: &mut [u8]) -> Result<usize, TextRefusal>
     }
     // By place: a loop over `chunks_exact_mut` says nothing of what the bytes end as.
     for (n, triangle) in list.iter().enumerate() {
-        let _ = write_line_at(bytes, n, *triangle);
+        write_line_at(bytes, n, *triangle).unwrap();
     }
     Ok(LINE * triangles)
 }

@@ -7,10 +7,10 @@ use crate::triangle::Triangle;
 use std::error::Error;
 use std::fmt;
 
-// A link number is below this.
+// A link number is below this: the bound of links in the largest scan, written here since trays stand on no other crate.
 const LINKS: u32 = 50_331_648;
 
-// Why no triangle was made of three numbers.
+// Why no triangle was made of three numbers: one case, since one refusal stands for both.
 #[derive(Clone, Copy, PartialEq, Eq, Debug)]
 pub enum TriangleRefusal {
     // Two of the numbers are equal, or one is 50,331,648 or more.
@@ -56,7 +56,7 @@ impl Triangle {
         })
     }
 
-    // The link of its first corner.
+    // The link of its first corner. Three calls by name: a list of three would be made for one of them.
     pub fn first(&self) -> u32
         ensures value { result ≡ self.now.first }
     {

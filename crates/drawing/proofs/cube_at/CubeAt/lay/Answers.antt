@@ -3,7 +3,8 @@ use lib.ListN.{length-map}
 use Rattle.std.proofs.lemmas.List.{length-take-le}
 use Rattle.surface.specs.Laid.{numbered}
 use Rattle.drawing.specs.Laying.{LaidIn, corners}
-use Rattle.drawing.proofs.Lays.{at_in, map_more, lays_more}
+use Rattle.std.proofs.lemmas.List.{map_more}
+use Rattle.drawing.proofs.Lays.{at_in, lays_more}
 use Rattle.drawing.proofs.cube_at.CubeAt.lay.Goals as goal
 use Rattle.drawing.proofs.cube_at.CubeAt.lay.Goals.{in-Some, in_default}
 

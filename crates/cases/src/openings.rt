@@ -1,18 +1,10 @@
-// Small blocks opened and refused.
-use crate::asked::Asked;
-use crate::drawing::Drawing;
-use crate::letter::{Letter, SolidTest};
-use crate::reading::cube_mask;
+// Small blocks opened and refused, and the masks of their cubes.
+use crate::block::block;
+use drawing::{Asked, Drawing, Letter, SolidTest, cube_mask};
 use grid::Voxel;
-use scan::{Block, Cause, Fault, Lacking, Lengths};
+use scan::{Block, Cause, Fault, Lacking};
 use std::alloc::Global;
 use std::test::Fail;
-
-// A block of these values, of spacing 1; the tests of lists of calls have one like it, which no caller wants.
-fn block(heap: Global, x: u32, y: u32, z: u32, values: &[u16]) -> Result<Block, Fail> {
-    let spacing = Lengths { x: 1, y: 1, z: 1 };
-    Ok(Block::new(Lengths { x, y, z }, spacing, values.to_vec(heap)?)?)
-}
 
 // The refusal's number at opening a block under H and (18,6); none where it is opened.
 fn refused(block: &Block, threshold: u16) -> Option<u8> {
@@ -27,15 +19,15 @@ fn refused(block: &Block, threshold: u16) -> Option<u8> {
 #[test]
 fn first_refusal_that_applies(rt: HostRuntime) -> Result<(), Fail> {
     let heap = rt.alloc();
-    let thin = block(heap, 1, 2, 2, &[0, 0, 0, 9])?;
+    let thin = block(heap, [1, 2, 2], &[0, 0, 0, 9])?;
     assert_eq!(rt; refused(&thin, 0), Some(4));
-    let mixed = block(heap, 2, 2, 2, &[9, 0, 0, 0, 0, 0, 0, 0])?;
+    let mixed = block(heap, [2, 2, 2], &[9, 0, 0, 0, 0, 0, 0, 0])?;
     assert_eq!(rt; refused(&mixed, 0), Some(5));
     assert_eq!(rt; refused(&mixed, 5), Some(8));
-    let lacking = block(heap, 2, 2, 2, &[9, 0, 0, 0, 0, 0, 0, 65_535])?;
+    let lacking = block(heap, [2, 2, 2], &[9, 0, 0, 0, 0, 0, 0, 65_535])?;
     assert_eq!(rt; refused(&lacking, 5), Some(7));
     for values in [[0; 8], [9; 8]] {
-        assert_eq!(rt; refused(&block(heap, 2, 2, 2, &values)?, 5), None);
+        assert_eq!(rt; refused(&block(heap, [2, 2, 2], &values)?, 5), None);
     }
     Ok(())
 }
@@ -46,7 +38,7 @@ fn mask_of(heap: Global, values: &[u16], number: u32) -> Result<Option<Result<u8
         threshold: 5,
         letter: Letter::H,
     };
-    let mask = cube_mask(&block(heap, 3, 3, 3, values)?, test, number);
+    let mask = cube_mask(&block(heap, [3, 3, 3], values)?, test, number);
     Ok(mask.map(|found| found.map(|mask| mask.0)))
 }
 
@@ -61,11 +53,7 @@ fn masks_of_cubes(rt: HostRuntime) -> Result<(), Fail> {
     assert_eq!(rt; mask_of(heap, &values, 8)?, None);
     values[13] = 65_535;
     let voxel = Voxel { x: 1, y: 1, z: 1 };
-    let fault = Fault {
-        cause: Cause::NoReading,
-        at: voxel,
-        passed: 0,
-    };
+    let fault = Fault::own(Cause::NoReading, voxel);
     assert_eq!(rt;
         mask_of(heap, &values, 3)?,
         Some(Err(Lacking { voxel, fault }))
@@ -78,8 +66,8 @@ fn lacking_inside_is_no_refusal(rt: HostRuntime) -> Result<(), Fail> {
     let heap = rt.alloc();
     let mut values = [0u16; 27];
     values[13] = 65_535;
-    assert_eq!(rt; refused(&block(heap, 3, 3, 3, &values)?, 5), None);
+    assert_eq!(rt; refused(&block(heap, [3, 3, 3], &values)?, 5), None);
     values[14] = 65_535;
-    assert_eq!(rt; refused(&block(heap, 3, 3, 3, &values)?, 5), Some(7));
+    assert_eq!(rt; refused(&block(heap, [3, 3, 3], &values)?, 5), Some(7));
     Ok(())
 }
