@@ -1,13 +1,13 @@
 -- Triangles laid into any tray, one after the other and list after list. Assumes nothing.
-use Rattle.std.proofs.Common.{◌≡◌, ℕ, zero, suc, ◌+◌, ◌-◌, ◌<◌, ◌≤◌, List, [], ◌∷◌, ◌++◌, map, length, get_or, take, Result, sym, refl, ap, ◌∙◌, inl, inr, append_assoc, arith, length-append}
+use Rattle.std.proofs.Common.{◌≡◌, ℕ, zero, suc, ◌-◌, ◌<◌, ◌≤◌, List, [], ◌∷◌, ◌++◌, length, get_or, Result, Ok, Err, sym, refl, ap, ◌∙◌, inl, inr, append_assoc, arith, length-append}
 use mathlib.Core.List.{map-append}
 use lib.ListN.{length-map}
-use Rattle.std.proofs.lemmas.List.{take_more}
+use Rattle.std.specs.Result.{IsOk}
 use Rattle.cube.specs.Lists.{In}
 use Rattle.tray.specs.Holding.{Held, KeepsRest, Lawful, Put, added_all}
 use Rattle.tray.specs.declared.tray.Full.{Full}
 use Rattle.tray.specs.declared.triangle.Triangle.{Triangle}
-use Rattle.tray.proofs.Trays.{Laid, laid_none, laid_more}
+use Rattle.tray.proofs.Trays.{Laid, laid_more}
 use Rattle.drawing.specs.Laying.{corners, LaidIn}
 
 -- What stands at a place of a list stands in it.
@@ -25,6 +25,13 @@ added_both h ts us =
 module _ {S : Type 0} {holds : S → Held} {keeps : ℕ → S → S → Type 0} (lawful : Lawful holds keeps) where
   went : {s e : S} {us : List (ℕ × ℕ × ℕ)} (h : LaidIn holds keeps s e us) → Laid holds keeps s h.triangles e
   went h = record { fit = h.fit; list = h.list; rest = h.rest }
+
+  -- Where there is room, one triangle more is not turned away.
+  pub goes_in : (s m e : S) (us : List (ℕ × ℕ × ℕ)) (t : Triangle) (r : Result (Unit {0}) Full) → LaidIn holds keeps s m us
+      → length us < (holds s).free → Put (holds m) t r (holds e) → IsOk r
+  goes_in s m e us t (Ok done) h room put = refl
+  goes_in s m e us t (Err full) h room put =
+      absurd (omega (arith, put.0, sym (length-map h.triangles corners) ∙ ap length h.corner, ap (λ x. x.free) h.list))
 
   -- One triangle more, where there is room for it.
   pub lays_more : (s m e : S) (us : List (ℕ × ℕ × ℕ)) (t : Triangle) (r : Result (Unit {0}) Full) → LaidIn holds keeps s m us

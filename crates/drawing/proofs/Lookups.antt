@@ -1,6 +1,5 @@
 -- Errors are mapped alone. Assumes nothing.
-use Rattle.std.proofs.Common.{◌≡◌, Option, None, Some, MatchOption, Result, Ok, Err, MatchResult, refl, subst}
-use Rattle.std.specs.Option.{IsSome}
+use Rattle.std.proofs.Common.{◌≡◌, Result, Ok, Err, MatchResult, subst}
 use Rattle.std.specs.Result.{IsErrAnd}
 
 -- What is there after the errors of a result are mapped was there before.

@@ -31,9 +31,7 @@ impl CubeAt {
         ensures { LaidIn T.Tray.holds T.Tray.keeps tray.old tray.new (map (numbered self.sides self.low) triangles.now) }
     {
         for t in triangles {
-            if let Some(triangle) = self.triangle(*t) {
-                let _ = tray.put(triangle);
-            }
+            tray.put(self.triangle(*t).unwrap()).unwrap();
         }
     }
 }

@@ -58,3 +58,41 @@ drew m budget t s hs hs' d d' h h' r a found at lt law told after = (
     more (Ok p) law = (law.2.triangles, ap (λ k. k.list) law.2.tray)
     more (Err OtherSides) law = ([], stayed law.2)
     more (Err ZeroBudget) law = ([], stayed law.3)
+
+-- A draw with another scan, which has other sides, is a draw with that scan.
+pub tried_other : (m n : Meaning) (others : List Meaning) (o t budget : ℕ) (s s' : State) (hs hs' : List Held) (a : Option Answer)
+    → o < length others → other_at others m o ≡ n → (n.sides ≡ m.sides → ⊥) → Tries n s hs t budget a s' hs'
+    → Steps m others s hs (DrawOther o t budget) a s' hs'
+tried_other m n others o t budget s s' hs hs' a lt at apart tries = (
+  tries.0,
+  λ ts. ⊎_elim
+      (λ h. inl (
+        (h.0.0, h.0.1, lt, λ e. apart (sym (ap (λ k. k.sides) at) ∙ e)),
+        subst (λ (k : Meaning). DrawingOn k t budget (world s hs ts) a (world s' hs' (ts ++ tries.0))) (sym at) h.1,
+      ))
+      (λ h. inr (λ can. h.0 (can.0, can.1), h.1, h.2))
+      (tries.1 ts),
+)
+
+-- A call that cannot be made changes nothing.
+pub not_made : (m : Meaning) (others : List Meaning) (s : State) (hs : List Held) (c : Call)
+    → ((ts : List Triangle) → CanMake m others (world s hs ts) c → ⊥) → Steps m others s hs c None s hs
+not_made m others s hs c cannot = ([], λ ts. inr (cannot ts, refl, no_more s hs ts))
+
+-- A call that touches no tray lays nothing.
+pub alone : (m : Meaning) (others : List Meaning) (s s' : State) (hs : List Held) (c c' : Call) (a : Option Answer)
+    → c ≡ c' → StepsAlone m s c' a s' → Steps m others s hs c a s' hs
+alone m others s s' hs c c' a e h = (
+  [],
+  λ ts. subst (λ (k : Call). Made m others (world s hs ts) k a (world s' hs (ts ++ []))) (sym e)
+      (subst (λ (w : World). Made m others (world s hs ts) c' a w) (sym (no_more s' hs ts)) (h others hs ts)),
+)
+
+-- Nor does the emptying of a tray.
+pub cleared : (m : Meaning) (others : List Meaning) (s s' : State) (hs hs' : List Held) (c : Call) (t : ℕ) (a : Option Answer)
+    → c ≡ Empty t → Clears s hs t a s' hs' → Steps m others s hs c a s' hs'
+cleared m others s s' hs hs' c t a e h = (
+  [],
+  λ ts. subst (λ (k : Call). Made m others (world s hs ts) k a (world s' hs' (ts ++ []))) (sym e)
+      (subst (λ (w : World). Made m others (world s hs ts) (Empty t) a w) (sym (no_more s' hs' ts)) (h m others ts)),
+)

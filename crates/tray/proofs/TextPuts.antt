@@ -1,9 +1,11 @@
 -- A loop that puts the triangles of a text into a tray, line by line. Assumes nothing.
-use Rattle.std.proofs.Common.{◌≡◌, ℕ, ◌<◌, ◌≤◌, List, [], ◌∷◌, ◌++◌, length, Result, sym, refl, ap, ◌∙◌, subst, append_assoc, append-nil, arith, length-append}
+use Rattle.std.proofs.Common.{◌≡◌, ℕ, ◌<◌, ◌≤◌, List, [], ◌∷◌, ◌++◌, length, Option, None, Some, Result, Ok, Err, sym, refl, ap, ◌∙◌, subst, append_assoc, append-nil, arith, length-append}
 use Rattle.tray.specs.declared.tray.Full.{Full}
 use Rattle.tray.specs.declared.triangle.Triangle.{Triangle}
 use Rattle.tray.specs.Holding.{Held, KeepsRest, Lawful, Put}
-use Rattle.tray.specs.Lines.{line_of}
+use Rattle.std.specs.Option.{IsSome}
+use Rattle.std.specs.Result.{IsOk}
+use Rattle.tray.specs.Lines.{LineRead, line_of}
 use Rattle.tray.specs.Texts.{text_of}
 use Rattle.tray.proofs.LineLaws.{length_line, same_line}
 use Rattle.tray.proofs.Cuts.{same_parts}
@@ -34,23 +36,34 @@ pub record Begun {S : Type 0} (holds : S → Held) (keeps : ℕ → S → S → 
 module _ {S : Type 0} {holds : S → Held} {keeps : ℕ → S → S → Type 0} (lawful : Lawful holds keeps) (list : List Triangle) (s : S) where
   module _ (left x more : List ℕ) (size : ℕ) (m : S) (h : Begun holds keeps list s left size m) (cut : left ≡ x ++ more) (long : length x ≡ size) where
     -- What is left begins with a line.
-    pub begun_line : ((t : Triangle) → x ≡ line_of t → ⊥) → ⊥
-    begun_line none = let next = first_line h.others x more (h.text ∙ cut) (long ∙ h.width) in none next.0 next.3
+    pub begun_line : (o : Option Triangle) → LineRead x o → IsSome o
+    begun_line None none = let next = first_line h.others x more (h.text ∙ cut) (long ∙ h.width) in absurd (none next.0 next.3)
+    begun_line (Some t) is = refl
+
+    -- There is room for its triangle.
+    begun_room : length list ≤ (holds s).free → length h.done < (holds s).free
+    begun_room room =
+        let next = first_line h.others x more (h.text ∙ cut) (long ∙ h.width) in
+        omega (arith, ap length h.all, ap length next.2, length-append h.done h.others)
+
+    pub begun_in : (t : Triangle) (r : Result (Unit {0}) Full) (e : S) → length list ≤ (holds s).free → Put (holds m) t r (holds e) → IsOk r
+    begun_in t (Ok done) e room put = refl
+    begun_in t (Err full) e room put = absurd (omega (arith, put.0, begun_room room, ap (λ x. x.free) h.laid.list))
 
     -- Its triangle goes into the tray.
-    pub begun_more : (t : Triangle) (r : Result (Unit {0}) Full) (e : S) (next : ℕ) → x ≡ line_of t → next ≡ size → length list ≤ (holds s).free → Put (holds m) t r (holds e) → KeepsRest holds keeps m e → Begun holds keeps list s more next e
-    begun_more t r e next line same room put kept =
+    pub begun_more : (o : Option Triangle) (t : Triangle) (r : Result (Unit {0}) Full) (e : S) (next : ℕ) → LineRead x o → o ≡ Some t → next ≡ size → length list ≤ (holds s).free → Put (holds m) t r (holds e) → KeepsRest holds keeps m e → Begun holds keeps list s more next e
+    begun_more o t r e next read some-t same room put kept =
+        let line : x ≡ line_of t = subst (LineRead x) some-t read in
         let next = first_line h.others x more (h.text ∙ cut) (long ∙ h.width) in
         let is : next.0 ≡ t = same_line next.0 t (sym next.3 ∙ line) in
         let all : list ≡ (h.done ++ (t ∷ [])) ++ next.1 = h.all ∙ ap (λ l. h.done ++ l) (next.2 ∙ ap (λ o. o ∷ next.1) is) ∙ sym (append_assoc h.done (t ∷ []) next.1) in
-        let some : length h.done < (holds s).free = omega (arith, ap length h.all, ap length next.2, length-append h.done h.others) in
         record {
           done = h.done ++ (t ∷ []);
           others = next.1;
           all = all;
           text = sym next.4;
           width = same ∙ h.width;
-          laid = laid_more lawful s m e h.done t r h.laid some put kept;
+          laid = laid_more lawful s m e h.done t r h.laid (begun_room room) put kept;
         }
 
   -- Where less than a line is left, all are in the tray.

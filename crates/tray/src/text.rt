@@ -90,10 +90,7 @@ fn put_lines<T: Tray>(text: &[u8], into: &mut T)
     ensures added { T.Tray.holds into.new ≡ added_all (T.Tray.holds into.old) (list_of text.now) }
     ensures rest { KeepsRest T.Tray.holds T.Tray.keeps into.old into.new }
 {
-    // With `if let`: antt refused the goals of a loop over `map_while(read_line)` here.
     for line in text.chunks_exact(LINE) {
-        if let Some(triangle) = read_line(line) {
-            let _ = into.put(triangle);
-        }
+        into.put(read_line(line).unwrap()).unwrap();
     }
 }
