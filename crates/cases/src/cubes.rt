@@ -45,6 +45,7 @@ fn pairs_of_numbers(rt: HostRuntime) {
 
 #[test]
 fn masks_and_their_voxels(rt: HostRuntime) {
+    // Masks are the numbers of a byte.
     for bits in 0..=255u8 {
         let m = Mask(bits);
         let voxels = array::from_fn(|voxel| m.is_solid(voxel as u8));

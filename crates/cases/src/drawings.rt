@@ -24,7 +24,7 @@ fn open(threshold: u16) -> Entry {
     entry(Call::Open(Asked { test, s: 18, h: 6 }))
 }
 
-// A draw into a tray.
+// A draw into a tray, as an entry; the program that draws a housing has the call alone.
 fn draw(tray: usize, budget: u32) -> Entry {
     entry(Call::Draw { tray, budget })
 }

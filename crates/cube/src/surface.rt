@@ -25,7 +25,7 @@ fn by_pair(mask: Mask, pair: Pair) -> Patch
     }
 }
 
-// The triangles that a cube lays under a pair, in order.
+// The triangles that a cube lays under a pair, in order. A mask and a pair go side by side: nothing else is asked of both.
 pub fn triangles(mask: Mask, pair: Pair) -> Patch
     ensures value { laid result ≡ the-triangles pair (kinds mask.0) }
     ensures laws { Lawful pair (kinds mask.0) (laid result) }

@@ -41,7 +41,7 @@ fn show_pair(rt: &HostRuntime, mask: Mask, pair: Pair) -> anyhow::Result<()> {
     show_groups(rt, mask.exchanged(), pair.hollow())
 }
 
-// The loops, each from its lowest link.
+// The loops, each from its lowest link. A mask and its connectedness go side by side, as the calls of graph take them.
 fn show_loops(rt: &HostRuntime, mask: Mask, s: Connectedness) -> anyhow::Result<()> {
     print!(rt; "    loops:")?;
     let loops = graph::loops(rt.alloc(), mask, s)?;

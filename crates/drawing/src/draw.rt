@@ -14,7 +14,8 @@ use tray::Tray;
 // Scan and tray go along as they are lent: a struct of a shared and an exclusive loan would be taken apart by each call.
 impl Drawing {
     // Draws the cubes from where the drawing stands up to, and without, the cube with that number, or up to the first
-    // that cannot be drawn. With `match`: such a cube ends the stretch, and what was drawn before it is told.
+    // that cannot be drawn. Cubes go by number; with `match`, since such a cube ends
+    // the stretch and what was drawn before it is told.
     fn stretch<S: Scan, T: Tray>(&self, scan: &S, tray: &mut T, end: u32) -> Stretch
         requires { (self.now.cubes ≤ end) × (end ≤ cube_count self.now.sides) }
         ensures { Stretched T.Tray.holds T.Tray.keeps (S.Scan.means scan.now) self.now end tray.old tray.new result }

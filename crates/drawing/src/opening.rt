@@ -19,6 +19,7 @@ impl Drawing {
     {
         let Asked { test, s, h } = asked;
         let sides = scan.sides();
+        // By axis: the sides are three named lengths.
         if sides.x() == 1 || sides.y() == 1 || sides.z() == 1 {
             return Err(OpenRefusal::ThinSide);
         }

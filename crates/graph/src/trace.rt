@@ -16,7 +16,8 @@ use std::alloc::{AllocError, Global};
 // Four calls want a link below twelve, each by a clause: a type for it would be taken apart at once, for the table and for
 // the list of corners, which hold plain numbers.
 impl Solid {
-    // The link of the end that belongs to the start at a walk's first step: the next end, or under six the end before it.
+    // The link of the end that belongs to the start at a walk's first step: the next end, or under six the end
+    // before it, which is what the rule says of each.
     fn end_of(self, walk: Walk) -> u8
         ensures { result ≡ ahead self.connectedness (kinds_of self) walk }
     {

@@ -15,7 +15,8 @@ use crate::shape::Shape;
 use crate::spacing::Spacing;
 use grid::{Sides, Voxel};
 
-// Shapes in order: the first that covers a voxel gives its reading, and where none does it is 0.
+// Shapes in order: the first that covers a voxel gives its reading, and where none does it is 0. Sides and spacing stand
+// beside them as beside the values of a block: a struct of the two would be opened for each question.
 #[derive(Drop)]
 pub struct Phantom {
     sides: Sides,

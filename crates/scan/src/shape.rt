@@ -30,7 +30,8 @@ impl Shape {
             && (self.low.z..=self.high.z).contains(&v.z)
     }
 
-    // Whether a phantom may have the shape: a value of at most 65,534, and coordinates of at most 255.
+    // Whether a phantom may have the shape: a value of at most 65,534, the largest reading, and coordinates of at most 255,
+    // the last of the largest scan. The rules state both in these numbers.
     pub fn fits(self) -> bool
         ensures { MatchBool result (ShapeFits self) (ShapeFits self → ⊥) }
     {

@@ -41,7 +41,8 @@ pub(crate) fn step<S: Scan, O: Scan, T: Tray>(
 }
 
 // Opens the scan, if nothing was opened yet. Here and in `close` each case gives both how things stand and an answer, which
-// `map` and `map_err` would give one at a time.
+// `map` and `map_err` would give one at a time; a state that is not the one wanted goes back as it was, in each by its own
+// last line, since a closure for it would have to own the state.
 fn open<S: Scan>(scan: &S, state: State, asked: Asked) -> (State, Option<Answer>)
     ensures { StepsAlone (S.Scan.means scan.now) state (Open asked) result.1 result.0 }
 {

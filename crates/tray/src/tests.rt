@@ -47,6 +47,7 @@ fn filled(rt: &impl Abort, heap: Global, places: u8, over: u8) -> Result<(), Fai
     let whole = 27 * places as usize;
     let mut tray = TextTray::new(vec![in heap; b'.'; whole + over as usize]?);
     assert_eq!(rt; tray.free(), places as usize);
+    // As often as there are places.
     for _ in 0..places {
         tray.put(triangle)?;
     }
@@ -60,6 +61,7 @@ fn filled(rt: &impl Abort, heap: Global, places: u8, over: u8) -> Result<(), Fai
 
 #[test]
 fn every_length(rt: HostRuntime) -> Result<(), Fail> {
+    // Lengths are numbers.
     for places in 0..4 {
         for over in 0..27 {
             filled(&rt, rt.alloc(), places, over)?;

@@ -74,6 +74,7 @@ pub fn read<T: Tray>(text: &[u8], into: &mut T) -> Result<usize, TextRefusal>
     ensures back { (ts : List Triangle) → text.now ≡ text_of ts → length ts ≤ (T.Tray.holds into.old).free → (result ≡ Ok (length ts)) × (T.Tray.holds into.new ≡ added_all (T.Tray.holds into.old) ts) }
     ensures rest { KeepsRest T.Tray.holds T.Tray.keeps into.old into.new }
 {
+    // The same refusal as in `write`, of what is free there: a call for it would be longer than the test.
     let triangles = count(text)?;
     let free = into.free();
     if triangles > free {
@@ -83,7 +84,8 @@ pub fn read<T: Tray>(text: &[u8], into: &mut T) -> Result<usize, TextRefusal>
     Ok(triangles)
 }
 
-// Puts the triangles of the text of a list into a tray that has room for them.
+// Puts the triangles of the text of a list into a tray that has room for them. A loop of its own, as `pour` has one: each
+// takes its triangles from something else, by what is known there; that there is room is a clause on the list at hand.
 fn put_lines<T: Tray>(text: &[u8], into: &mut T)
     requires spelled { text.now ≡ text_of (list_of text.now) }
     requires room { length (list_of text.now) ≤ (T.Tray.holds into.old).free }
