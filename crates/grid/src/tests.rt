@@ -4,7 +4,7 @@ use std::test::Fail;
 
 // Sides that are within their range.
 fn made(x: u32, y: u32, z: u32) -> Result<Sides, Fail> {
-    Sides::new(x, y, z).ok_or(Fail::new("sides within their range"))
+    Sides::new(x, y, z).ok_or_else(|| Fail::new("sides within their range"))
 }
 
 #[test]
