@@ -1,14 +1,17 @@
-// Shows what the library makes of two galleries that pass each other, step by step.
+// Shows what the library makes of a housing with two galleries that pass each other, step by step.
 #![tactic(auto)]
 
 mod cubes;
-mod openings;
+mod drawings;
+mod housing;
 mod scans;
+mod totals;
 mod trays;
 
 fn main(rt: HostRuntime) -> anyhow::Result<()> {
     cubes::show(&rt)?;
     scans::show(&rt)?;
-    openings::show(&rt)?;
+    drawings::show(&rt)?;
+    totals::show(&rt)?;
     trays::show(&rt)
 }

@@ -16,10 +16,7 @@ const MANY: usize = 300;
 
 // Draws the housing with refusals on the way, then under each other pair, then with solid and hollow exchanged.
 pub(crate) fn show(rt: &HostRuntime) -> anyhow::Result<()> {
-    println!(rt;
-        "A housing of 6 x 7 x 7 voxels with two galleries that pass one voxel apart and touch across an edge"
-    )?;
-    println!(rt; "Tray 0 has {FEW} places, tray 1 has {MANY}")?;
+    println!(rt; "The housing drawn into trays: tray 0 has {FEW} places, tray 1 has {MANY}")?;
     let phantom = housing::phantom(rt.alloc(), 7)?;
     let pair = Pair::S18H6;
     println!(rt; "Drawn under {pair}, with refusals on the way")?;
