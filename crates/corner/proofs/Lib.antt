@@ -1,0 +1,9 @@
+pub mod Halves
+pub mod Values
+pub mod Quotients
+pub mod Fractions
+pub mod Coordinates
+pub mod Points
+pub mod Parted
+pub mod Placed
+pub mod Halfway

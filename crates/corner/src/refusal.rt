@@ -1,0 +1,69 @@
+// Why a corner has no place.
+ghost use Rattle.std.specs.Prelude.{◌≡◌, Some};
+ghost use Rattle.corner.specs.Placing.{number};
+ghost use Rattle.corner.specs.Texts.{place_text};
+ghost use Rattle.corner.specs.declared.refusal.PlaceRefusal.TheVariants.{Lacking};
+
+use scan::Fault;
+use std::error::Error;
+use std::fmt;
+
+// What stands against placing, in the order in which it is looked at.
+#[derive(Clone, Copy, PartialEq, Eq, Debug)]
+pub enum PlaceRefusal {
+    // The scan has other sides than it had when it was opened.
+    OtherSides,
+    // No link of the scan has that number.
+    NoLink,
+    // An end of the link lacks a reading; the lower end is tried first.
+    Lacking { fault: Fault },
+    // Both ends of the link are solid, or both are hollow.
+    OneKind,
+}
+
+// An end of the link lacks a reading.
+impl From<Fault> for PlaceRefusal {
+    ghost from_gives = { λ fault refusal. refusal ≡ Lacking fault };
+
+    fn from(fault: Fault) -> PlaceRefusal {
+        PlaceRefusal::Lacking { fault }
+    }
+}
+
+// The refusal's number.
+impl From<PlaceRefusal> for u8 {
+    ghost from_gives = { λ refusal n. n ≡ number refusal };
+
+    fn from(refusal: PlaceRefusal) -> u8 {
+        match refusal {
+            PlaceRefusal::OtherSides => 9,
+            PlaceRefusal::NoLink => 14,
+            PlaceRefusal::Lacking { .. } => 15,
+            PlaceRefusal::OneKind => 16,
+        }
+    }
+}
+
+// The refusal's number, the reason, and the fault that it tells.
+impl fmt::Display for PlaceRefusal {
+    ghost output = { λ refusal. Some (place_text refusal) };
+
+    fn fmt<W: fmt::Write>(&self, f: &mut fmt::Formatter<W>) -> fmt::Result {
+        let number = u8::from(*self);
+        match self {
+            PlaceRefusal::OtherSides => write!(
+                f,
+                "refused with {number}, the scan has other sides"
+            ),
+            PlaceRefusal::NoLink => write!(f, "refused with {number}, no link has this number"),
+            PlaceRefusal::Lacking { fault } => {
+                write!(f, "refused with {number}, an end lacks a reading, {fault}")
+            }
+            PlaceRefusal::OneKind => {
+                write!(f, "refused with {number}, both ends are of one kind")
+            }
+        }
+    }
+}
+
+impl Error for PlaceRefusal {}
