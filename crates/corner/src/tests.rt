@@ -1,7 +1,24 @@
-// Fractions at the ends of the range of readings, coordinates where rounding shows, and the types.
+// Fractions at the ends of the range of readings, coordinates where rounding shows, and corners placed and refused.
+ghost use Rattle.std.specs.Prelude.{◌≢◌};
+ghost use Rattle.corner.specs.Fractions.{IsProper};
+ghost use Rattle.drawing.specs.Solids.{solid_by};
+ghost use Rattle.drawing.specs.declared.letter.Letter.TheVariants.{H};
+
 use crate::coordinate::{along, at};
-use crate::fraction::fraction;
 use crate::*;
+use drawing::{Asked, Drawing, Letter, SolidTest};
+use scan::{Block, Cause, Fault, Lengths};
+use std::alloc::Global;
+use std::test::Fail;
+
+// The fraction at a threshold under H.
+fn fraction(low: u16, high: u16, threshold: u16) -> f32
+    requires { solid_by H threshold low ≢ solid_by H threshold high }
+    ensures { IsProper result }
+{
+    let letter = Letter::H;
+    crate::fraction::fraction(SolidTest { threshold, letter }, low, high)
+}
 
 #[test]
 fn fractions(rt: HostRuntime) {
@@ -53,4 +70,134 @@ fn places_and_points(rt: HostRuntime) {
     assert!(rt; point == Point { ..point });
     assert!(rt; point != Point { z: 4.0, ..point });
     samples();
+}
+
+// A block of 3 x 3 x 3 values with a spacing of 50, 60 and 70.
+fn block(heap: Global, values: &[u16]) -> Result<Block, Fail> {
+    let sides = Lengths { x: 3, y: 3, z: 3 };
+    let spacing = Lengths {
+        x: 50,
+        y: 60,
+        z: 70,
+    };
+    Ok(Block::new(sides, spacing, values.to_vec(heap)?)?)
+}
+
+// That block with one reading in the middle and 0 around it.
+fn shell(heap: Global, middle: u16) -> Result<Block, Fail> {
+    let mut values = [0u16; 27];
+    values[13] = middle;
+    block(heap, &values)
+}
+
+// A drawing of a block under (18,6).
+fn opened(block: &Block, threshold: u16, letter: Letter) -> Result<Drawing, Fail> {
+    let test = SolidTest { threshold, letter };
+    Ok(Drawing::open(block, Asked { test, s: 18, h: 6 })?)
+}
+
+#[test]
+fn extremes(rt: HostRuntime) -> Result<(), Fail> {
+    let block = shell(rt.alloc(), 65_534)?;
+    let table = [
+        (1, 36, Place::X(7.629627e-6)),
+        (1, 39, Place::X(0.9999924)),
+        (65_534, 36, Place::X(0.9999924)),
+        (65_534, 39, Place::X(7.629627e-6)),
+        (1, 14, Place::Z(7.629627e-6)),
+        (65_534, 40, Place::Y(7.629627e-6)),
+    ];
+    for letter in [Letter::H, Letter::L] {
+        for (threshold, link, expected) in table {
+            let drawing = opened(&block, threshold, letter)?;
+            let found = place(&drawing, &block, link).map(|corner| corner.place);
+            assert_eq!(rt; found, Ok(expected));
+        }
+    }
+    Ok(())
+}
+
+#[test]
+fn corners_along_each_axis(rt: HostRuntime) -> Result<(), Fail> {
+    let block = shell(rt.alloc(), 8)?;
+    let drawing = opened(&block, 5, Letter::H)?;
+    let table = [
+        (36, Place::X(0.5625), [28.125, 60.0, 70.0]),
+        (39, Place::X(0.4375), [71.875, 60.0, 70.0]),
+        (31, Place::Y(0.5625), [50.0, 33.75, 70.0]),
+        (40, Place::Y(0.4375), [50.0, 86.25, 70.0]),
+        (14, Place::Z(0.5625), [50.0, 60.0, 39.375]),
+        (41, Place::Z(0.4375), [50.0, 60.0, 100.625]),
+    ];
+    for (link, expected, [x, y, z]) in table {
+        let corner = Corner {
+            place: expected,
+            point: Point { x, y, z },
+        };
+        assert_eq!(rt; place(&drawing, &block, link), Ok(corner));
+    }
+    Ok(())
+}
+
+// Voxel 13 lacks a reading in this block, and voxel 12 before it.
+fn lacking(heap: Global) -> Result<Block, Fail> {
+    let mut values = [0u16; 27];
+    values[12] = 65_535;
+    values[13] = 65_535;
+    block(heap, &values)
+}
+
+// The refusal over an end at a voxel of a block that has no reading.
+fn lacks(at: [u32; 3]) -> PlaceRefusal {
+    let fault = Fault::own(Cause::NoReading, at.into());
+    PlaceRefusal::Lacking { fault }
+}
+
+#[test]
+fn refusals(rt: HostRuntime) -> Result<(), Fail> {
+    let whole = shell(rt.alloc(), 9)?;
+    let lacking = lacking(rt.alloc())?;
+    let drawing = opened(&whole, 5, Letter::H)?;
+    let table = [
+        // The last link along z has an end outside, and no voxel has the number 27.
+        (80, PlaceRefusal::NoLink),
+        (81, PlaceRefusal::NoLink),
+        // The lower end is told where both lack a reading, else the one that does.
+        (36, lacks([0, 1, 1])),
+        (39, lacks([1, 1, 1])),
+        (14, lacks([1, 1, 1])),
+        (0, PlaceRefusal::OneKind),
+    ];
+    for (link, expected) in table {
+        assert_eq!(rt; place(&drawing, &lacking, link), Err(expected));
+    }
+    assert!(rt; place(&drawing, &whole, 41).is_ok());
+    Ok(())
+}
+
+#[test]
+fn other_sides_come_first(rt: HostRuntime) -> Result<(), Fail> {
+    let heap = rt.alloc();
+    let whole = shell(heap, 9)?;
+    let drawing = opened(&whole, 5, Letter::H)?;
+    let all = |n| Lengths { x: n, y: n, z: n };
+    let other = Block::new(all(2), all(1), vec![in heap; 65_535; 8]?)?;
+    for link in [0, 41, 80, 81] {
+        let expected = Err(PlaceRefusal::OtherSides);
+        assert_eq!(rt; place(&drawing, &other, link), expected);
+    }
+    Ok(())
+}
+
+#[test]
+fn numbers(rt: HostRuntime) {
+    let table = [
+        (PlaceRefusal::OtherSides, 9),
+        (PlaceRefusal::NoLink, 14),
+        (lacks([1, 1, 1]), 15),
+        (PlaceRefusal::OneKind, 16),
+    ];
+    for (refusal, number) in table {
+        assert_eq!(rt; u8::from(refusal), number);
+    }
 }
