@@ -1,6 +1,7 @@
 // Shows what the library makes of a housing with two galleries that pass each other, step by step.
 #![tactic(auto)]
 
+mod corners;
 mod cubes;
 mod drawings;
 mod housing;
@@ -13,5 +14,6 @@ fn main(rt: HostRuntime) -> anyhow::Result<()> {
     scans::show(&rt)?;
     drawings::show(&rt)?;
     totals::show(&rt)?;
+    corners::show(&rt)?;
     trays::show(&rt)
 }
