@@ -29,6 +29,7 @@ same_sides a b s t differ first second is none =
     sym first ∙ sides_same a b (eqb-true a.x b.x outer.0, eqb-true a.y b.y inner.0, eqb-true a.z b.z inner.1) ∙ second
 
 module _ (t : SolidTest) (m : Meaning) (n : ℕ) (e : Ends) (read : EndsRead m n e) where
+  -- A place on the link's axis at its fraction, and the point there.
   pub corner_on : (s : Spacing) (place : Place) (p : Point) → is_solid t e.low ≢ is_solid t e.high → axis_of place ≡ e.link.axis
       → IsFraction (twice_level t) e.low e.high (fraction_of place) → IsPoint s e.link.lower place p
       → CornerOn t m s e (record { place = place; point = p })

@@ -172,6 +172,9 @@ fn refusals(rt: HostRuntime) -> Result<(), Fail> {
         assert_eq!(rt; place(&drawing, &lacking, link), Err(expected));
     }
     assert!(rt; place(&drawing, &whole, 41).is_ok());
+    // Under L both ends of that link are solid.
+    let drawing = opened(&whole, 5, Letter::L)?;
+    assert_eq!(rt; place(&drawing, &whole, 0), Err(PlaceRefusal::OneKind));
     Ok(())
 }
 

@@ -1,4 +1,4 @@
-use Rattle.std.proofs.Common.{◌≡◌, rules}
+use Rattle.std.proofs.Common.{rules}
 use Rattle.std.proofs.lemmas.Result.{err_from_is_err_and}
 use Rattle.corner.proofs.Parted.{bare}
 use Rattle.corner.proofs.Placed.{corner_on, refused, same_sides}
