@@ -1,18 +1,19 @@
 // Where the corners of a small shell lie.
 use corner::{Place, Point, place};
 use drawing::{Asked, Drawing, Letter, SolidTest};
-use scan::{Block, Lengths};
+use scan::Block;
 use std::alloc::{AllocError, Global};
-use tray::{RecordTray, Tray};
+use tray::RecordTray;
 
 // Draws the shell, places each corner of its triangles, and asks for two links that carry none.
 pub(crate) fn show(rt: &HostRuntime) -> anyhow::Result<()> {
     println!(rt; "A shell around one voxel at threshold 5, 50 micrometres from voxel to voxel")?;
     let block = shell(rt.alloc())?;
     let mut drawing = Drawing::open(&block, asked())?;
+    let pair = drawing.pair();
     let mut tray = RecordTray::new(rt.alloc(), 8)?;
     let progress = drawing.draw(&block, &mut tray, 8)?;
-    println!(rt; "  drawn under (18,6): {progress}")?;
+    println!(rt; "  drawn under {pair}: {progress}")?;
     for link in corners(rt.alloc(), &tray)?.iter() {
         show_place(rt, &drawing, &block, *link)?;
     }
@@ -24,16 +25,10 @@ pub(crate) fn show(rt: &HostRuntime) -> anyhow::Result<()> {
 
 // A block of 3 x 3 x 3 voxels that reads 9 in the middle and 0 to 4 around it.
 fn shell(heap: Global) -> anyhow::Result<Block> {
-    let sides = Lengths { x: 3, y: 3, z: 3 };
-    let spacing = Lengths {
-        x: 50,
-        y: 50,
-        z: 50,
-    };
     let values = vec![in heap;
         0, 0, 0, 0, 0, 0, 0, 0, 0, 0, 3, 0, 1, 9, 2, 0, 4, 0, 0, 0, 0, 0, 0, 0, 0, 0, 0,
     ]?;
-    Ok(Block::new(sides, spacing, values)?)
+    Ok(Block::new([3; 3].into(), [50; 3].into(), values)?)
 }
 
 // The opening of the shell.
@@ -48,10 +43,8 @@ fn asked() -> Asked {
 // The corners of the triangles that a tray holds, each once, by their links in ascending order.
 fn corners(heap: Global, tray: &RecordTray) -> Result<Vec<u32>, AllocError> {
     let mut links = Vec::new(heap);
-    for n in 0..tray.held() {
-        if let Some(t) = tray.nth(n) {
-            links.extend_from_slice(&[t.first(), t.second(), t.third()])?;
-        }
+    for t in tray.triangles() {
+        links.extend_from_slice(&[t.first(), t.second(), t.third()])?;
     }
     links.sort_unstable();
     links.dedup();
