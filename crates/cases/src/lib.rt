@@ -1,4 +1,4 @@
-// Examples of the cube and of lists of calls, run as tests; nothing here is for use.
+// Examples of the cube, of openings and of lists of calls, run as tests; nothing here is for use.
 #![tactic(auto)]
 
 #[cfg(test)]
