@@ -1,0 +1,23 @@
+-- The numbers and the texts by which unread inputs are told. Assumes nothing.
+use Rattle.std.specs.Prelude.{ℕ, List, ◌++◌, None, Option, Some, codes}
+use Rattle.std.specs.Fmt.{decimal}
+use Rattle.listing.specs.declared.unread.Unread.{Unread}
+use Rattle.listing.specs.declared.unread.Unread.TheVariants.{TooLong, Line, Memory}
+
+-- An input that is too long is refusal 17, and one with a line out of form 18; want of memory is no refusal.
+abbrev pub refusal_number : Unread → Option ℕ
+refusal_number TooLong = Some 17
+refusal_number (Line k) = Some 18
+refusal_number Memory = None
+
+-- Only the line is told.
+abbrev pub told_by : Unread → ℕ
+told_by TooLong = 0
+told_by (Line k) = k
+told_by Memory = 0
+
+-- A refusal is printed by its number and the reason, with the line that it tells.
+abbrev pub unread_text : Unread → List ℕ
+unread_text TooLong = codes "refused with 17, the input is over 32768 bytes"
+unread_text (Line k) = codes "refused with 18, line " ++ (decimal k ++ codes " is out of form")
+unread_text Memory = codes "no memory for the readings"

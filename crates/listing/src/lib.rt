@@ -1,0 +1,21 @@
+// The lines that the program reads and writes.
+#![tactic(auto)]
+
+mod closing_lines;
+mod fields;
+mod header;
+mod input;
+mod laws;
+mod line;
+mod number;
+mod pieces;
+mod rows;
+#[cfg(test)]
+mod tests;
+mod unread;
+
+pub use closing_lines::{end_line, refusal_line};
+pub use header::Header;
+pub use input::{Input, read};
+pub use laws::cut_once;
+pub use unread::Unread;
