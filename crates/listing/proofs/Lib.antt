@@ -1,8 +1,14 @@
+pub mod Adding
+pub mod Blocks
+pub mod Bounds
+pub mod Closings
 pub mod CutLaws
 pub mod Cuts
 pub mod FieldLaws
 pub mod InputLaws
 pub mod LineLaws
 pub mod Numbers
+pub mod OneDraw
+pub mod Outputs
 pub mod RowLaws
 pub mod RowSteps

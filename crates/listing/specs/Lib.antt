@@ -3,5 +3,7 @@ pub mod Cutting
 pub mod Fields
 pub mod Inputs
 pub mod Lines
+pub mod Listings
 pub mod Numerals
 pub mod Refusals
+pub mod Steps

@@ -2,12 +2,15 @@
 #![tactic(auto)]
 
 mod closing_lines;
+mod closing_off;
+mod drawing_out;
 mod fields;
 mod header;
 mod input;
 mod laws;
 mod line;
 mod number;
+mod output;
 mod pieces;
 mod rows;
 #[cfg(test)]
@@ -18,4 +21,5 @@ pub use closing_lines::{end_line, refusal_line};
 pub use header::Header;
 pub use input::{Input, read};
 pub use laws::cut_once;
+pub use output::listing;
 pub use unread::Unread;
