@@ -1,6 +1,5 @@
 -- The block of an input. Assumes nothing.
-use Rattle.std.proofs.Common.{◌≡◌, ℕ, zero, suc, ◌*◌, ◌<◌, Bool, true, false, List, [], ◌∷◌, length, Err, sym, ap, ◌∙◌, ⊎_elim, arith, length-append}
-use Rattle.std.proofs.lemmas.Nat.{mul-le}
+use Rattle.std.proofs.Common.{◌≡◌, ℕ, ◌*◌, Bool, true, false, List, [], ◌∷◌, length, Err, sym, ap, ◌∙◌, arith, length-append}
 use Rattle.std.specs.List.{AllZip, concat}
 use Rattle.grid.specs.declared.sides.Sides.{Sides}
 use Rattle.grid.specs.declared.voxel.Voxel.{Voxel}
@@ -9,7 +8,7 @@ use Rattle.scan.specs.Faults.{own_fault}
 use Rattle.scan.specs.Meaning.{held, or_outside}
 use Rattle.scan.specs.declared.fault.Cause.TheVariants.{NoReading, Outside}
 use Rattle.scan.specs.declared.fault.Fault.{Fault}
-use Rattle.listing.specs.Inputs.{FirstOut, Listed, RowLine}
+use Rattle.listing.specs.Inputs.{Listed, RowLine}
 use Rattle.listing.specs.Steps.{Fills, OwnFaults}
 use Rattle.listing.specs.declared.header.Header.{Header}
 
@@ -41,12 +40,3 @@ fills bytes header readings l =
           ∙ rows_length header.nx l.begun.lines l.rows l.begun.row_lines
           ∙ ap (λ n. header.nx * n) l.count;
     }
-
--- The first line out of form has a small number.
-pub line_small : (bytes : List ℕ) (k : ℕ) → FirstOut bytes k → k < 100000000
-line_small bytes zero out = absurd out
-line_small bytes (suc zero) out = omega arith
-line_small bytes (suc (suc n)) out =
-    let h = out.begun.header_line in
-    let rows = mul-le out.header.ny out.header.nz 256 256 h.writes_ny.high h.writes_nz.high in
-    ⊎_elim (λ l. omega (arith, l.0)) (λ l. omega (arith, l.0)) out.out

@@ -1,5 +1,5 @@
 -- The output of an input, and of bytes that are none. Assumes nothing.
-use Rattle.std.proofs.Common.{◌≡◌, ℕ, ◌<◌, List, Some, sym, ap, ◌∙◌, subst, arith}
+use Rattle.std.proofs.Common.{◌≡◌, ℕ, List, Some, sym, ap, ◌∙◌, subst, arith}
 use Rattle.listing.specs.ClosingLines.{refusal_text}
 use Rattle.listing.specs.Inputs.{Accepted, OneAnswer, Refused}
 use Rattle.listing.specs.Listings.{Listing, ScanLists}
@@ -7,7 +7,6 @@ use Rattle.listing.specs.Refusals.{refusal_number, told_by}
 use Rattle.listing.specs.declared.header.Header.{Header}
 use Rattle.listing.specs.declared.unread.Unread.{Unread}
 use Rattle.listing.specs.declared.unread.Unread.TheVariants.{TooLong, Line, Memory}
-use Rattle.listing.proofs.Blocks.{line_small}
 
 module _ (bytes out : List ℕ) (one : OneAnswer bytes) where
   -- An input has the output of its header and readings.
@@ -40,9 +39,3 @@ module _ (bytes out : List ℕ) (one : OneAnswer bytes) where
         one = one;
       }
   of_refusal Memory n is refused text = absurd (cc)
-
--- What is told of bytes that are not read has at most eight digits.
-pub told_small : (bytes : List ℕ) (u : Unread) → Refused bytes u → told_by u < 100000000
-told_small bytes TooLong refused = omega arith
-told_small bytes (Line k) refused = line_small bytes k refused.1
-told_small bytes Memory refused = omega arith
