@@ -6,6 +6,7 @@ pub mod CutLaws
 pub mod Cuts
 pub mod FieldLaws
 pub mod InputLaws
+pub mod LastLines
 pub mod LineLaws
 pub mod Numbers
 pub mod OneDraw
