@@ -12,6 +12,8 @@ mod laws;
 mod line;
 mod number;
 mod output;
+#[cfg(test)]
+mod output_tests;
 mod pieces;
 mod rows;
 #[cfg(test)]

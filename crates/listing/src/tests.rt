@@ -8,7 +8,7 @@ use std::alloc::Global;
 use std::process::Abort;
 use std::test::Fail;
 
-const SAMPLE: &[u8] =
+pub(crate) const SAMPLE: &[u8] =
     b"S,3,3,3,5,H,18,6\nV,0,0,0\nV,0,0,0\nV,0,0,0\nV,0,0,0\nV,0,9,0\nV,0,0,0\nV,0,0,0\nV,0,0,0\nV,0,0,0\n";
 
 #[test]
@@ -105,7 +105,7 @@ fn first_line_out_of_form(rt: HostRuntime) -> Result<(), Fail> {
 }
 
 // An input in form of just 32,768 bytes, and what stands after it.
-fn longest(heap: Global, after: &[u8]) -> Result<Vec<u8>, Fail> {
+pub(crate) fn longest(heap: Global, after: &[u8]) -> Result<Vec<u8>, Fail> {
     let mut bytes = vec![in heap]?;
     bytes.extend_from_slice(b"S,00237,00001,00023,00005,H,00018,0006\n")?;
     for _ in 0..23 {
