@@ -37,6 +37,6 @@ pub(crate) fn push_end(output: &mut Vec<u8>, drawing: Drawing) -> Result<(), All
     ensures { IfOk result (λ _. output.new.items ≡ output.old.items ++ end_text drawing.cubes drawing.triangles) }
 {
     let Report { cubes, triangles } = drawing.close().unwrap().report();
-    let line = end_line(cubes, triangles).unwrap();
-    output.extend_from_slice(&line)
+    let last = end_line(cubes, triangles).unwrap();
+    output.extend_from_slice(&last)
 }

@@ -78,12 +78,11 @@ fn voxel_told(sides: Sides, refusal: OpenRefusal) -> u32
 }
 
 // The output of a scan that is open: the triangles of its cubes, and the line of the end or of a cube that lacks a reading.
-fn list_open<S: Scan>(heap: Global, scan: &S, drawing: Drawing) -> Result<Vec<u8>, AllocError>
+fn list_open<S: Scan>(heap: Global, scan: &S, mut drawing: Drawing) -> Result<Vec<u8>, AllocError>
     requires own { OwnFaults (S.Scan.means scan.now) }
     requires begins { Begins (S.Scan.means scan.now) drawing }
     ensures { IfOk result (λ out. Lists (S.Scan.means scan.now) (Ok drawing) out.items) }
 {
-    let mut drawing = drawing;
     let mut tray = TextTray::new(vec![in heap; 0; BYTES]?);
     let mut output = Vec::new(heap);
     match draw_out(scan, &mut drawing, &mut tray, &mut output)? {

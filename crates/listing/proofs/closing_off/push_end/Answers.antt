@@ -8,8 +8,8 @@ there : (cubes triangles : ℕ) (r : Option (List ℕ)) (Q : List ℕ → Type 0
 there cubes triangles None Q a b h = absurd (⊎_elim (λ (l : 100000000 ≤ cubes). omega arith) (λ (l : 100000000 ≤ triangles). omega arith) h)
 there cubes triangles (Some line) Q a b h = refl
 
-pub unwrap-line-requires : goal.unwrap-line-requires
-unwrap-line-requires c =
+pub unwrap-last-requires : goal.unwrap-last-requires
+unwrap-last-requires c =
     let small = counts_small c.unwrap.result.drawing in
     let report = c.report-cubes.ensures in
     there c.report-cubes.result.cubes c.report-cubes.result.triangles c.end_line.result _
