@@ -46,10 +46,6 @@ module _ {S : Type 0} {holds : S → Held} {keeps : ℕ → S → S → Type 0} 
         let next = first_line h.others x more (h.text ∙ cut) (long ∙ h.width) in
         omega (arith, ap length h.all, ap length next.2, length-append h.done h.others)
 
-    pub begun_in : (t : Triangle) (r : Result (Unit {0}) Full) (e : S) → length list ≤ (holds s).free → Put (holds m) t r (holds e) → IsOk r
-    begun_in t (Ok done) e room put = refl
-    begun_in t (Err full) e room put = absurd (omega (arith, put.0, begun_room room, ap (λ x. x.free) h.laid.list))
-
     -- Its triangle goes into the tray.
     pub begun_more : (o : Option Triangle) (t : Triangle) (r : Result (Unit {0}) Full) (e : S) (next : ℕ) → LineRead x o → o ≡ Some t → next ≡ size → length list ≤ (holds s).free → Put (holds m) t r (holds e) → KeepsRest holds keeps m e → Begun holds keeps list s more next e
     begun_more o t r e next read some-t same room put kept =

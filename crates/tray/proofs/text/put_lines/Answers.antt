@@ -1,15 +1,10 @@
-use Rattle.tray.proofs.TextPuts.{begun_line, begun_in, begun_more, begun_all}
+use Rattle.tray.proofs.TextPuts.{begun_line, begun_more, begun_all}
 use Rattle.tray.proofs.text.put_lines.Goals as goal
 
 pub unwrap-requires : goal.unwrap-requires
 unwrap-requires g c =
     let step = c.in-Some.ensures.steps in
     begun_line g.T.Tray.lawful _ _ _ _ _ _ _ c.loop-line.invariant step.1.0 step.1.1 _ c.read_line.ensures
-
-pub unwrap-requires-in-loop-line : goal.unwrap-requires-in-loop-line
-unwrap-requires-in-loop-line g c =
-    let step = c.in-Some.ensures.steps in
-    begun_in g.T.Tray.lawful _ _ _ _ _ _ _ c.loop-line.invariant step.1.0 step.1.1 _ _ _ c.requires.room c.put.ensures.put
 
 pub loop-line-preserved : goal.loop-line-preserved
 loop-line-preserved g c =
