@@ -1,5 +1,5 @@
 -- The block of an input. Assumes nothing.
-use Rattle.std.proofs.Common.{◌≡◌, ℕ, ◌*◌, Bool, true, false, List, [], ◌∷◌, length, Err, sym, ap, ◌∙◌, arith, length-append}
+use Rattle.std.proofs.Common.{◌≡◌, ℕ, ◌*◌, Bool, true, false, List, [], ◌∷◌, length, get_or, Err, sym, ap, ◌∙◌, arith, length-append}
 use Rattle.std.specs.List.{AllZip, concat}
 use Rattle.grid.specs.declared.sides.Sides.{Sides}
 use Rattle.grid.specs.declared.voxel.Voxel.{Voxel}
@@ -8,7 +8,9 @@ use Rattle.scan.specs.Faults.{own_fault}
 use Rattle.scan.specs.Meaning.{held, or_outside}
 use Rattle.scan.specs.declared.fault.Cause.TheVariants.{NoReading, Outside}
 use Rattle.scan.specs.declared.fault.Fault.{Fault}
+use Rattle.scan.specs.declared.lengths.Lengths.{Lengths}
 use Rattle.listing.specs.Inputs.{Listed, RowLine}
+use Rattle.listing.specs.Listings.{sides_of}
 use Rattle.listing.specs.Steps.{Fills, OwnFaults}
 use Rattle.listing.specs.declared.header.Header.{Header}
 
@@ -16,6 +18,10 @@ own_at : (inside reads : Bool) (value : ℕ) (v : Voxel) (f : Fault) → or_outs
 own_at false reads value v f e = let same : own_fault Outside v ≡ f = cc in sym (ap (λ x. x.at) same)
 own_at true true value v f e = absurd (cc)
 own_at true false value v f e = let same : own_fault NoReading v ≡ f = cc in sym (ap (λ x. x.at) same)
+
+-- The sides of a header are its three lengths.
+pub lengths_same : (h : Header) (l : Lengths) → (h.nx ∷ h.ny ∷ h.nz ∷ []) ≡ (l.x ∷ l.y ∷ l.z ∷ []) → sides_of h ≡ l
+lengths_same h l e = ap (λ (xs : List ℕ). let lengths : Lengths = record { x = get_or xs 0 0; y = get_or xs 1 0; z = get_or xs 2 0 } in lengths) e
 
 -- A block's faults tell the place that was asked.
 pub own_faults : (s : Sides) (values : List ℕ) → OwnFaults (block_means s values)

@@ -13,3 +13,4 @@ pub mod OneDraw
 pub mod Outputs
 pub mod RowLaws
 pub mod RowSteps
+pub mod Streams

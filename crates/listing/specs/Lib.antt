@@ -6,4 +6,5 @@ pub mod Lines
 pub mod Listings
 pub mod Numerals
 pub mod Refusals
+pub mod Running
 pub mod Steps

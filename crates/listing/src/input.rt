@@ -17,7 +17,7 @@ pub struct Input {
 }
 
 // The most bytes that are read.
-const LIMIT: usize = 32_768;
+pub(crate) const LIMIT: usize = 32_768;
 
 // The number of the first line.
 const FIRST: u32 = 1;

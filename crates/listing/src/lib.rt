@@ -16,6 +16,9 @@ mod output;
 mod output_tests;
 mod pieces;
 mod rows;
+mod running;
+#[cfg(test)]
+mod running_tests;
 #[cfg(test)]
 mod tests;
 mod unread;
@@ -26,4 +29,5 @@ pub use input::{Input, read};
 pub use last_line::is_refused;
 pub use laws::cut_once;
 pub use output::listing;
+pub use running::{Outcome, run};
 pub use unread::Unread;

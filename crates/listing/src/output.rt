@@ -10,7 +10,7 @@ use crate::header::Header;
 use crate::input::{Input, read};
 use drawing::{Drawing, OpenRefusal};
 use grid::Sides;
-use scan::{Block, Lengths, Scan};
+use scan::{Block, Scan};
 use std::alloc::{AllocError, Global};
 use tray::TextTray;
 
@@ -48,13 +48,7 @@ fn list_scan(heap: Global, input: Input) -> Result<Vec<u8>, AllocError>
 {
     let Input { header, readings } = input;
     let Header { nx, ny, nz, asked } = header;
-    let sides = Lengths {
-        x: nx,
-        y: ny,
-        z: nz,
-    };
-    let spacing = Lengths { x: 1, y: 1, z: 1 };
-    let block = Block::new(sides, spacing, readings).unwrap();
+    let block = Block::new([nx, ny, nz].into(), [1; 3].into(), readings).unwrap();
     match Drawing::open(&block, asked) {
         Ok(drawing) => list_open(heap, &block, drawing),
         Err(refusal) => {
