@@ -17,7 +17,7 @@ use Rattle.corner.specs.declared.ends.Ends.{Ends}
 use Rattle.corner.specs.declared.point.Point.{Point}
 use Rattle.corner.specs.declared.refusal.PlaceRefusal.{PlaceRefusal}
 use Rattle.corner.specs.declared.refusal.PlaceRefusal.TheVariants.{OtherSides, NoLink, Lacking, OneKind}
-use Rattle.corner.proofs.Parted.{carries}
+use Rattle.corner.proofs.Parted.{carries, crossed}
 use Rattle.corner.proofs.Points.{between}
 
 -- Sides of which a test says that they do not differ are the same.
@@ -36,6 +36,7 @@ module _ (t : SolidTest) (m : Meaning) (n : ℕ) (e : Ends) (read : EndsRead m n
   corner_on s place p parted same fraction point =
       record {
         carried = carries t m n e read parted;
+        level = crossed t e.low e.high parted;
         axis = same;
         fraction = fraction;
         point = point;

@@ -10,7 +10,7 @@ use Rattle.drawing.specs.Solids.{solids_of}
 use Rattle.drawing.specs.declared.drawing.Drawing.{Drawing}
 use Rattle.drawing.specs.declared.letter.SolidTest.{SolidTest}
 use Rattle.corner.specs.Fractions.{IsFraction}
-use Rattle.corner.specs.Levels.{twice_level}
+use Rattle.corner.specs.Levels.{twice_level, Crosses}
 use Rattle.corner.specs.Points.{axis_of, fraction_of, IsPoint, Between}
 use Rattle.corner.specs.declared.corner.Corner.{Corner}
 use Rattle.corner.specs.declared.ends.Ends.{Ends}
@@ -48,6 +48,7 @@ EndsFound m n (Err OneKind) = ⊥
 pub record CornerOn (t : SolidTest) (m : Meaning) (s : Spacing) (e : Ends) (c : Corner) : Type 0 where
   -- Its place is on the link's axis, where the readings pass the level of the test.
   pub carried : T (crosses (solids_of t m) e.link)
+  pub level : Crosses (twice_level t) e.low e.high
   pub axis : axis_of c.place ≡ e.link.axis
   pub fraction : IsFraction (twice_level t) e.low e.high (fraction_of c.place)
   -- Its point is told from there, and lies between the two ends.

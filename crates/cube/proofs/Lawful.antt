@@ -13,6 +13,7 @@ use Rattle.cube.proofs.Listed.{and_left, and_right}
 use Rattle.cube.proofs.Everywhere.{everywhere}
 use Rattle.cube.proofs.Sound.{edged, cornered, sound, once, graphed, drawn, back, solids, hollows, all_cross, all_met}
 use Rattle.cube.proofs.Computed.{always_sound}
+use Rattle.cube.proofs.Outward.{outward}
 
 not_not : (b : Bool) → not (not b) ≡ b
 not_not true = refl
@@ -61,6 +62,7 @@ lawful p k =
       every_corner = all_met k ls c;
       solid_ends = solids p k es e;
       hollow_ends = hollows p k es e;
+      outward = outward p k;
       few = leb→le (length ts) (most p k) (and_right (cornered k ls) (leb (length ts) (most p k)) r);
       mirror = mirrored p k;
     }

@@ -5,6 +5,7 @@ pub mod Everywhere
 pub mod Voxels
 pub mod Sound
 pub mod Computed
+pub mod Outward
 pub mod Lawful
 pub mod Bits
 pub mod Eight

@@ -1,11 +1,11 @@
 -- What holds of the triangles of every cube, under each of the four pairs. Assumes nothing.
-use Rattle.std.specs.Prelude.{◌≡◌, ℕ, ◌≤◌, true, false, T, List, [], ◌∷◌, map, length, flat_map}
+use Rattle.std.specs.Prelude.{◌≡◌, ℕ, ◌≤◌, true, false, T, not, ℤ, pos, int_le, List, [], ◌∷◌, map, length, flat_map}
 use Rattle.cube.specs.Lists.{In, Distinct}
 use Rattle.cube.specs.Cube.{Face, faces, Kinds, solid, exchange, lower, upper}
 use Rattle.cube.specs.Pairs.{of_solid, of_hollow, swap}
 use Rattle.cube.specs.Graph.{graph_on}
 use Rattle.cube.specs.Loops.{corners}
-use Rattle.cube.specs.Cutting.{on_face}
+use Rattle.cube.specs.Cutting.{on_face, corner_point, voxel_point, minus, cross, dot}
 use Rattle.cube.specs.Triangles.{triangles, turn_over, opposite}
 use Rattle.cube.specs.Joined.{Joined}
 use Rattle.cube.specs.declared.pair.Pair.{Pair}
@@ -33,6 +33,18 @@ hollow_end k l = elim (solid k (lower l)) [ true ↦ upper l | false ↦ lower l
 abbrev pub Lies : ℕ × ℕ → Face → Type 0
 Lies e f = T (on_face e.0 e.1 f)
 
+-- Where a voxel lies of a triangle: the determinant of q - p, r - p and w - p, which is above 0 in front of it.
+abbrev pub in_front : CubeTriangle → ℕ → ℤ
+in_front t v =
+    let p = corner_point t.0 in
+    dot (cross (minus (corner_point t.1) p) (minus (corner_point t.2) p)) (minus (voxel_point v) p)
+
+-- A triangle turns its front to hollow: of its corners' links no solid end lies in front of it, no hollow end behind, and it is not flat.
+pub record Outward (k : Kinds) (t : CubeTriangle) : Type 0 where
+  pub solid_behind : (l : ℕ) → In l (corners_of t) → T (int_le (in_front t (solid_end k l)) (pos 0))
+  pub hollow_in_front : (l : ℕ) → In l (corners_of t) → T (int_le (pos 0) (in_front t (hollow_end k l)))
+  pub turned : (l : ℕ) × In l (corners_of t) × T (not (int_le (in_front t (hollow_end k l)) (pos 0)))
+
 -- A tube has six triangles, any other cube at most five.
 abbrev pub most : Pair → Kinds → ℕ
 most S18H6 k = 5
@@ -54,6 +66,8 @@ pub record Lawful (p : Pair) (k : Kinds) (ts : List CubeTriangle) : Type 0 where
   -- The solid ends of an edge's two links are joined in the cube, and so are the hollow ends.
   pub solid_ends : (e : ℕ × ℕ) → In e (edges ts) → Joined (of_solid p) k (solid_end k e.0) (solid_end k e.1)
   pub hollow_ends : (e : ℕ × ℕ) → In e (edges ts) → Joined (of_hollow p) (exchange k) (hollow_end k e.0) (hollow_end k e.1)
+  -- Every triangle turns its front to hollow.
+  pub outward : (t : CubeTriangle) → In t ts → Outward k t
   pub few : length ts ≤ most p k
   -- The exchanged cube under the swapped pair lays these triangles turned over, one by one.
   pub mirror : triangles (swap p) (exchange k) ≡ map turn_over ts

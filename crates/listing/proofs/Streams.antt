@@ -54,25 +54,25 @@ of_front n bytes out above l =
     })
     (leb_tells (length bytes) n)
 
--- The output of what was read is that of all that the reader had, where that is known.
-of_reader : (given : Option (List ℕ)) (read out : List ℕ) → IfSome (option_map (take 32769) given) (λ bytes. read ≡ bytes) → Listing read out
-    → (input : List ℕ) × IfSome given (λ bytes. input ≡ bytes) × Listing input out
-of_reader None read out none l = (read, tt, l)
-of_reader (Some bytes) read out same l =
-    (bytes, refl, of_front 32769 bytes out (omega arith) (subst (λ (bs : List ℕ). Listing bs out) same l))
+module _ (n : ℕ) (above : 32768 < n) where
+  -- The output of what was read, up to a limit past that of an input, is that of all that the reader had, where that is known.
+  of_reader : (given : Option (List ℕ)) (read out : List ℕ) → IfSome (option_map (take n) given) (λ bytes. read ≡ bytes) → Listing read out
+      → (input : List ℕ) × IfSome given (λ bytes. input ≡ bytes) × Listing input out
+  of_reader None read out none l = (read, tt, l)
+  of_reader (Some bytes) read out same l =
+      (bytes, refl, of_front n bytes out above (subst (λ (bs : List ℕ). Listing bs out) same l))
 
--- What was read behind nothing, up to the limit, is what stands at the front of what the reader had.
-taken : {R : Type 0} (remaining : R → Option (List ℕ)) (t : Take R) (from : R) (start read : List ℕ) → t.limit ≡ 32769 → t.inner ≡ from → start ≡ []
-    → IfSome (take_remaining remaining t) (λ xs. read ≡ start ++ xs) → IfSome (option_map (take 32769) (remaining from)) (λ bytes. read ≡ bytes)
-taken remaining t from start read limit inner empty h =
-    subst (λ s. IfSome (option_map (take 32769) (remaining from)) (λ xs. read ≡ s ++ xs)) empty
-    (subst (λ r. IfSome (option_map (take 32769) (remaining r)) (λ xs. read ≡ start ++ xs)) inner
-    (subst (λ n. IfSome (option_map (take n) (remaining t.inner)) (λ xs. read ≡ start ++ xs)) limit h))
+-- What was read behind nothing is what stands at the front of what the reader had.
+taken : {R : Type 0} (remaining : R → Option (List ℕ)) (t : Take R) (from : R) (start read : List ℕ) → t.inner ≡ from → start ≡ []
+    → IfSome (take_remaining remaining t) (λ xs. read ≡ start ++ xs) → IfSome (option_map (take t.limit) (remaining from)) (λ bytes. read ≡ bytes)
+taken remaining t from start read inner empty h =
+    subst (λ s. IfSome (option_map (take t.limit) (remaining from)) (λ xs. read ≡ s ++ xs)) empty
+    (subst (λ r. IfSome (option_map (take t.limit) (remaining r)) (λ xs. read ≡ start ++ xs)) inner h)
 
 -- Reading up to the limit, listing what was read and writing it is the work of the program.
 pub ran : {R : Type 0} (remaining : R → Option (List ℕ)) (t : Take R) (from : R) (start read out : List ℕ) (held holds : Option (List ℕ)) (outcome : Outcome)
-    → t.limit ≡ 32769 → t.inner ≡ from → start ≡ [] → IfSome (take_remaining remaining t) (λ xs. read ≡ start ++ xs)
+    → 32768 < t.limit → t.inner ≡ from → start ≡ [] → IfSome (take_remaining remaining t) (λ xs. read ≡ start ++ xs)
     → Listing read out → Appends held holds out → Ends outcome out → Ran (remaining from) held holds outcome
-ran remaining t from start read out held holds outcome limit inner empty h l written ends =
-    let whole = of_reader (remaining from) read out (taken remaining t from start read limit inner empty h) l in
+ran remaining t from start read out held holds outcome above inner empty h l written ends =
+    let whole = of_reader t.limit above (remaining from) read out (taken remaining t from start read inner empty h) l in
     record { input = whole.0; whole = whole.1; output = out; listing = whole.2; written = written; ends = ends }

@@ -1,5 +1,5 @@
 -- The two lines with which the output of the program ends. Assumes nothing.
-use Rattle.std.specs.Prelude.{◌≡◌, ℕ, List, [], ◌∷◌, ◌++◌}
+use Rattle.std.specs.Prelude.{◌≡◌, ℕ, ◌-◌, ◌≤◌, List, [], ◌∷◌, ◌++◌, length, slice_index}
 use Rattle.tray.specs.Decimal.{digits}
 
 -- At an end: E, the cubes and the triangles, in eight digits each.
@@ -16,3 +16,7 @@ EndsRefused out = (front : List ℕ) × (number : ℕ) × (told : ℕ) × (out �
 
 abbrev pub EndsFinished : List ℕ → Type 0
 EndsFinished out = (front : List ℕ) × (cubes : ℕ) × (triangles : ℕ) × (out ≡ front ++ end_text cubes triangles)
+
+-- Where the line of a refusal would begin there is its letter.
+abbrev pub RefusalThere : List ℕ → Type 0
+RefusalThere out = (14 ≤ length out) × (slice_index out (length out - 14) ≡ 82)

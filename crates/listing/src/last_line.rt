@@ -1,6 +1,6 @@
 // What the last line of an output is.
-ghost use Rattle.std.specs.Prelude.{◌≡◌, false, true};
-ghost use Rattle.listing.specs.ClosingLines.{EndsFinished, EndsRefused};
+ghost use Rattle.std.specs.Prelude.{◌≡◌, MatchBool, false, true};
+ghost use Rattle.listing.specs.ClosingLines.{EndsFinished, EndsRefused, RefusalThere};
 
 // The bytes of the line of a refusal.
 const REFUSAL: usize = 14;
@@ -10,6 +10,7 @@ const REFUSAL: usize = 14;
 pub fn is_refused(output: &[u8]) -> bool
     ensures refused { EndsRefused output.now → result ≡ true }
     ensures finished { EndsFinished output.now → result ≡ false }
+    ensures told { MatchBool result (RefusalThere output.now) (RefusalThere output.now → ⊥) }
 {
     if output.len() < REFUSAL {
         return false;

@@ -41,7 +41,7 @@ pub fn run<R: Read + Drop, W: Write>(heap: Global, from: R, to: &mut W) -> io::R
     from.take(BYTES).read_to_end(&mut input)?;
     let output = listing(heap, input.as_slice())?;
     to.write_all(output.as_slice())?;
-    if !is_refused(output.as_slice()) {
+    if is_refused(output.as_slice()) {
         Ok(Outcome::Refused)
     } else {
         Ok(Outcome::Finished)

@@ -27,7 +27,10 @@ fn cut_after_the_limit(rt: HostRuntime) -> Result<(), Fail> {
     for (end, output) in ends {
         let bytes = longest(rt.alloc(), end)?;
         let mut to = vec![in rt.alloc()]?;
-        assert_eq!(rt; run(rt.alloc(), bytes.as_slice(), &mut to)?, Outcome::Refused);
+        assert_eq!(rt;
+            run(rt.alloc(), bytes.as_slice(), &mut to)?,
+            Outcome::Refused
+        );
         assert_eq!(rt; to.as_slice(), output);
     }
     Ok(())

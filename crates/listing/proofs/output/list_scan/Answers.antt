@@ -14,7 +14,7 @@ pub returns-in-Ok : goal.returns-in-Ok
 returns-in-Ok c =
     let block = c.unwrap-block.result in
     let shown : ShowsValues (block_means block.sides block.values.items) (sides_of c.args.input.header) c.args.input.readings.items =
-        rw (lengths_same c.args.input.header c.into.result c.into.ensures) (IfOk-at_ok (λ b. ShowsValues (block_means b.sides b.values.items) c.into.result c.args.input.readings.items) c.unwrap-block.ensures c.new.ensures.shows) in
+    rw (lengths_same c.args.input.header c.into.result c.into.ensures) (IfOk-at_ok (λ b. ShowsValues (block_means b.sides b.values.items) c.into.result c.args.input.readings.items) c.unwrap-block.ensures c.new.ensures.shows) in
     IfOk-weaker c.list_open.result _ _
     (λ out lists. record {
       scan = block_means block.sides block.values.items;
@@ -29,7 +29,7 @@ pub returns : goal.returns
 returns c =
     let block = c.unwrap-block.result in
     let shown : ShowsValues (block_means block.sides block.values.items) (sides_of c.args.input.header) c.args.input.readings.items =
-        rw (lengths_same c.args.input.header c.into.result c.into.ensures) (IfOk-at_ok (λ b. ShowsValues (block_means b.sides b.values.items) c.into.result c.args.input.readings.items) c.unwrap-block.ensures c.new.ensures.shows) in
+    rw (lengths_same c.args.input.header c.into.result c.into.ensures) (IfOk-at_ok (λ b. ShowsValues (block_means b.sides b.values.items) c.into.result c.args.input.readings.items) c.unwrap-block.ensures c.new.ensures.shows) in
     IfOk-weaker c.refused.result _ _
     (λ out text. record {
       scan = block_means block.sides block.values.items;
