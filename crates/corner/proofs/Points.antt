@@ -9,7 +9,7 @@ use Rattle.grid.specs.declared.link.Link.{Link}
 use Rattle.grid.specs.declared.voxel.Voxel.{Voxel}
 use Rattle.scan.specs.declared.spacing.Spacing.{Spacing}
 use Rattle.corner.specs.Coordinates.{IsVoxelCoordinate}
-use Rattle.corner.specs.Points.{axis_of, IsPoint, Spanned, Between}
+use Rattle.corner.specs.Points.{axis_of, IsPoint, Spanned, WithinEnds}
 use Rattle.corner.specs.Precision.{IsRatio}
 use Rattle.corner.specs.declared.corner.Place.{Place}
 use Rattle.corner.specs.declared.corner.Place.TheVariants.{X, Y, Z}
@@ -28,11 +28,11 @@ flat s i x v =
     let same = le_refl x (number_of_ratio x _ _ v.exact) in
     (subst (λ z. z ≤ᶠ x) v.rounded same, subst (λ z. x ≤ᶠ z) v.rounded same)
 
-along_axis : (s : Spacing) (v : Voxel) (place : Place) (p : Point) → IsPoint s v place p → Between s v (next (axis_of place) v) p
+along_axis : (s : Spacing) (v : Voxel) (place : Place) (p : Point) → IsPoint s v place p → WithinEnds s v (next (axis_of place) v) p
 along_axis s v (X fraction) p h = record { x = (h.0.from, h.0.to); y = flat s.y v.y p.y h.1; z = flat s.z v.z p.z h.2 }
 along_axis s v (Y fraction) p h = record { x = flat s.x v.x p.x h.0; y = (h.1.from, h.1.to); z = flat s.z v.z p.z h.2 }
 along_axis s v (Z fraction) p h = record { x = flat s.x v.x p.x h.0; y = flat s.y v.y p.y h.1; z = (h.2.from, h.2.to) }
 
-pub between : (s : Spacing) (k : Link) (place : Place) (p : Point) → axis_of place ≡ k.axis → IsPoint s k.lower place p → Between s k.lower (upper_of k) p
+pub between : (s : Spacing) (k : Link) (place : Place) (p : Point) → axis_of place ≡ k.axis → IsPoint s k.lower place p → WithinEnds s k.lower (upper_of k) p
 between s k place p same h =
-    subst (λ (a : Axis). Between s k.lower (next a k.lower) p) same (along_axis s k.lower place p h)
+    subst (λ (a : Axis). WithinEnds s k.lower (next a k.lower) p) same (along_axis s k.lower place p h)

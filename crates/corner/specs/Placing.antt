@@ -11,7 +11,7 @@ use Rattle.drawing.specs.declared.drawing.Drawing.{Drawing}
 use Rattle.drawing.specs.declared.letter.SolidTest.{SolidTest}
 use Rattle.corner.specs.Fractions.{IsFraction}
 use Rattle.corner.specs.Levels.{twice_level, Crosses}
-use Rattle.corner.specs.Points.{axis_of, fraction_of, IsPoint, Between}
+use Rattle.corner.specs.Points.{axis_of, fraction_of, IsPoint, WithinEnds}
 use Rattle.corner.specs.declared.corner.Corner.{Corner}
 use Rattle.corner.specs.declared.ends.Ends.{Ends}
 use Rattle.corner.specs.declared.refusal.PlaceRefusal.{PlaceRefusal}
@@ -53,7 +53,7 @@ pub record CornerOn (t : SolidTest) (m : Meaning) (s : Spacing) (e : Ends) (c : 
   pub fraction : IsFraction (twice_level t) e.low e.high (fraction_of c.place)
   -- Its point is told from there, and lies between the two ends.
   pub point : IsPoint s e.link.lower c.place c.point
-  pub between : Between s e.link.lower (upper_of e.link) c.point
+  pub between : WithinEnds s e.link.lower (upper_of e.link) c.point
 
 -- The corner on the link with that number, or the first refusal that applies.
 abbrev pub Placed : Drawing → Meaning → Spacing → ℕ → Result Corner PlaceRefusal → Type 0

@@ -36,7 +36,7 @@ abbrev pub Spanned : (spacing low high : ℕ) → Float → Type 0
 Spanned spacing low high x = (of_voxel spacing low ≤ᶠ x) × (x ≤ᶠ of_voxel spacing high)
 
 -- A point lies between two voxels along every axis, both allowed to touch.
-pub record Between (s : Spacing) (low high : Voxel) (p : Point) : Type 0 where
+pub record WithinEnds (s : Spacing) (low high : Voxel) (p : Point) : Type 0 where
   pub x : Spanned s.x low.x high.x p.x
   pub y : Spanned s.y low.y high.y p.y
   pub z : Spanned s.z low.z high.z p.z

@@ -8,7 +8,7 @@ use Rattle.drawing.specs.declared.letter.Letter.{Letter}
 use Rattle.drawing.specs.declared.letter.Letter.TheVariants.{H, L}
 use Rattle.listing.specs.Inputs.{WritesSide, letter_byte}
 use Rattle.listing.specs.Numerals.{Writes}
-use Rattle.listing.specs.Fields.{◌>>=◌, letter_field, letter_of, number_field, number_of, side, side_field, with_none}
+use Rattle.listing.specs.Fields.{◌>>=◌, letter_field, letter_of, number_field, number_read, side, side_field, with_none}
 use Rattle.listing.proofs.CutLaws.{some_same}
 use Rattle.listing.proofs.Numbers.{both, number_of_written, written_number_of}
 
@@ -21,7 +21,7 @@ bound (Some x) f y e = (x, refl, e)
 pub number_taken : (fs more : List (List ℕ)) (n : ℕ) → number_field fs ≡ Some (n, more) → (f : List ℕ) × (fs ≡ f ∷ more) × Writes f n
 number_taken [] more n e = absurd (cc)
 number_taken (f ∷ fs) more n e =
-    let told = bound (number_of f) (λ m. Some (m, fs)) (n, more) e in
+    let told = bound (number_read f) (λ m. Some (m, fs)) (n, more) e in
     let same = some_same (told.0, fs) (n, more) told.2 in
     (f, ap (λ p. f ∷ p.1) same, written_number_of f n (told.1 ∙ ap (λ p. Some p.0) same))
 

@@ -7,7 +7,7 @@ use Rattle.std.proofs.lemmas.Option.{option_and_then_some}
 use Rattle.listing.specs.declared.header.Header.{Header}
 use Rattle.drawing.specs.declared.letter.Letter.{Letter}
 use Rattle.drawing.specs.declared.letter.Letter.TheVariants.{H, L}
-use Rattle.listing.specs.Cutting.{Lacks, pieces}
+use Rattle.listing.specs.Cutting.{HasNone, pieces}
 use Rattle.listing.specs.Inputs.{HeaderLine, RowLine, letter_byte, line_of}
 use Rattle.listing.specs.Numerals.{Writes}
 use Rattle.listing.specs.Fields.{◌>>=◌, header_of, letter_field, number_field, row_of, side_field, with_none}
@@ -16,42 +16,42 @@ use Rattle.listing.proofs.CutLaws.{joined, pieces_joined, some_same}
 use Rattle.listing.proofs.FieldLaws.{bound, letter_again, letter_taken, none_left, number_again, number_taken, side_again, side_taken}
 
 -- Bytes of digits have no lower mark in them.
-digits_lack : (mark : ℕ) (bs : List ℕ) → mark < 48 → AllByRecursion IsAsciiDigit bs → Lacks mark bs
+digits_lack : (mark : ℕ) (bs : List ℕ) → mark < 48 → AllByRecursion IsAsciiDigit bs → HasNone mark bs
 digits_lack mark [] low all = tt
 digits_lack mark (b ∷ bs) low all = (omega arith, digits_lack mark bs low all.1)
 
-letter_lacks : (mark : ℕ) (l : Letter) → mark < 48 → Lacks mark (letter_byte l ∷ [])
+letter_lacks : (mark : ℕ) (l : Letter) → mark < 48 → HasNone mark (letter_byte l ∷ [])
 letter_lacks mark H low = (omega arith, tt)
 letter_lacks mark L low = (omega arith, tt)
 
-fields_lack : (mark : ℕ) (fs : List (List ℕ)) (row : List ℕ) → mark < 48 → AllZip Writes fs row → AllByRecursion (Lacks mark) fs
+fields_lack : (mark : ℕ) (fs : List (List ℕ)) (row : List ℕ) → mark < 48 → AllZip Writes fs row → AllByRecursion (HasNone mark) fs
 fields_lack mark [] [] low all = tt
 fields_lack mark [] (x ∷ row) low all = absurd all
 fields_lack mark (f ∷ fs) [] low all = absurd all
 fields_lack mark (f ∷ fs) (x ∷ row) low all = (digits_lack mark f low all.0.digits, fields_lack mark fs row low all.1)
 
-lacks_append : (mark : ℕ) (p q : List ℕ) → Lacks mark p → Lacks mark q → Lacks mark (p ++ q)
+lacks_append : (mark : ℕ) (p q : List ℕ) → HasNone mark p → HasNone mark q → HasNone mark (p ++ q)
 lacks_append mark [] q lp lq = lq
 lacks_append mark (b ∷ p) q lp lq = (lp.0, lacks_append mark p q lp.1 lq)
 
 -- Nor have fields that another mark parts.
-joined_lack : (mark comma : ℕ) (fs : List (List ℕ)) → comma ≢ mark → AllByRecursion (Lacks mark) fs → Lacks mark (join_with_byte comma fs)
+joined_lack : (mark comma : ℕ) (fs : List (List ℕ)) → comma ≢ mark → AllByRecursion (HasNone mark) fs → HasNone mark (join_with_byte comma fs)
 joined_lack mark comma [] other all = tt
 joined_lack mark comma (f ∷ []) other all = all.0
 joined_lack mark comma (f ∷ g ∷ fs) other all = lacks_append mark f (comma ∷ join_with_byte comma (g ∷ fs)) all.0 (other, joined_lack mark comma (g ∷ fs) other all.1)
 
-header_fields_lack : (mark : ℕ) (line : List ℕ) (header : Header) → mark < 48 → (l : HeaderLine line header) → AllByRecursion (Lacks mark) (l.nx ∷ l.ny ∷ l.nz ∷ l.threshold ∷ (letter_byte header.asked.test.letter ∷ []) ∷ l.s ∷ l.h ∷ [])
+header_fields_lack : (mark : ℕ) (line : List ℕ) (header : Header) → mark < 48 → (l : HeaderLine line header) → AllByRecursion (HasNone mark) (l.nx ∷ l.ny ∷ l.nz ∷ l.threshold ∷ (letter_byte header.asked.test.letter ∷ []) ∷ l.s ∷ l.h ∷ [])
 header_fields_lack mark line header low l =
     (digits_lack mark l.nx low l.writes_nx.number.digits, (digits_lack mark l.ny low l.writes_ny.number.digits, (digits_lack mark l.nz low l.writes_nz.number.digits, (digits_lack mark l.threshold low l.writes_threshold.digits, (letter_lacks mark header.asked.test.letter low, (digits_lack mark l.s low l.writes_s.digits, (digits_lack mark l.h low l.writes_h.digits, tt)))))))
 
 -- No line has a line feed in it.
-pub header_lacks : (line : List ℕ) (header : Header) → HeaderLine line header → Lacks 10 line
+pub header_lacks : (line : List ℕ) (header : Header) → HeaderLine line header → HasNone 10 line
 header_lacks line header l =
-    subst (Lacks 10) (sym l.text) (omega arith, (omega arith, joined_lack 10 44 (l.nx ∷ l.ny ∷ l.nz ∷ l.threshold ∷ (letter_byte header.asked.test.letter ∷ []) ∷ l.s ∷ l.h ∷ []) (omega arith) (header_fields_lack 10 line header (lit< tt) l)))
+    subst (HasNone 10) (sym l.text) (omega arith, (omega arith, joined_lack 10 44 (l.nx ∷ l.ny ∷ l.nz ∷ l.threshold ∷ (letter_byte header.asked.test.letter ∷ []) ∷ l.s ∷ l.h ∷ []) (omega arith) (header_fields_lack 10 line header (lit< tt) l)))
 
-pub row_lacks : (nx : ℕ) (line row : List ℕ) → RowLine nx line row → Lacks 10 line
+pub row_lacks : (nx : ℕ) (line row : List ℕ) → RowLine nx line row → HasNone 10 line
 row_lacks nx line row l =
-    subst (Lacks 10) (sym l.text) (omega arith, (omega arith, joined_lack 10 44 l.fields (omega arith) (fields_lack 10 l.fields row (lit< tt) l.writes)))
+    subst (HasNone 10) (sym l.text) (omega arith, (omega arith, joined_lack 10 44 l.fields (omega arith) (fields_lack 10 l.fields row (lit< tt) l.writes)))
 
 tested : {A : Type 0} (b : Bool) (x : Option A) (y : A) → cond b x None ≡ Some y → (b ≡ true) × (x ≡ Some y)
 tested true x y e = (refl, e)

@@ -11,7 +11,7 @@ use Rattle.std.specs.Result.{OkIff, result_ok}
 use Rattle.std.proofs.lemmas.List.{take_all, take_more}
 use Rattle.tray.specs.Decimal.{value_after}
 use Rattle.listing.specs.Numerals.{Writes}
-use Rattle.listing.specs.Fields.{number_of}
+use Rattle.listing.specs.Fields.{number_read}
 
 -- Four digits spell a number below 10,000.
 pub small_front : (bs : List ℕ) → length bs ≤ 4 → AllByRecursion IsAsciiDigit bs → value_after 0 bs < 10000
@@ -99,16 +99,16 @@ digits_pass [] all = refl
 digits_pass (b ∷ bs) all = both_true (both_true (le-leb 48 b all.0.0) (le-leb b 57 all.0.1)) (digits_pass bs all.1)
 
 -- Bytes are read as the number that they write,
-pub number_of_written : (bs : List ℕ) (n : ℕ) → Writes bs n → number_of bs ≡ Some n
-unfolding number_of
+pub number_of_written : (bs : List ℕ) (n : ℕ) → Writes bs n → number_read bs ≡ Some n
+unfolding number_read
 number_of_written bs n w =
     let small : value_after 0 bs ≤ 65535 = omega (arith, w.value, w.small) in
     let pass = both_true (le-leb 1 (length bs) w.some) (both_true (le-leb (length bs) 5 w.few) (both_true (digits_pass bs w.digits) (le-leb (value_after 0 bs) 65535 small))) in
     ap (λ b. cond b (Some (value_after 0 bs)) None) pass ∙ ap Some w.value
 
 -- and as no other.
-pub written_number_of : (bs : List ℕ) (n : ℕ) → number_of bs ≡ Some n → Writes bs n
-unfolding number_of
+pub written_number_of : (bs : List ℕ) (n : ℕ) → number_read bs ≡ Some n → Writes bs n
+unfolding number_read
 written_number_of bs n e =
     let told = cond_some _ (value_after 0 bs) n e in
     let one = both (leb 1 (length bs)) _ told.0 in
@@ -122,11 +122,11 @@ written_number_of bs n e =
       small = omega (arith, told.1, leb-true (value_after 0 bs) 65535 three.1);
     }
 
-unwritten : (bs : List ℕ) (r : Option ℕ) → number_of bs ≡ r → ((n : ℕ) → Writes bs n → ⊥) → number_of bs ≡ None
+unwritten : (bs : List ℕ) (r : Option ℕ) → number_read bs ≡ r → ((n : ℕ) → Writes bs n → ⊥) → number_read bs ≡ None
 unwritten bs None e none = e
 unwritten bs (Some n) e none = absurd (none n (written_number_of bs n e))
 
 -- What is told of bytes is the number that they are read as.
-pub number_told : (bs : List ℕ) (r : Option ℕ) → MatchOption r ((n : ℕ) → Writes bs n → ⊥) (Writes bs) → number_of bs ≡ r
-number_told bs None none = unwritten bs (number_of bs) refl none
+pub number_told : (bs : List ℕ) (r : Option ℕ) → MatchOption r ((n : ℕ) → Writes bs n → ⊥) (Writes bs) → number_read bs ≡ r
+number_told bs None none = unwritten bs (number_read bs) refl none
 number_told bs (Some n) writes = number_of_written bs n writes

@@ -31,11 +31,11 @@ abbrev pub left : Pieces → List (List ℕ)
 left p = pieces_of_rest p.mark p.rest
 
 -- No mark stands in the bytes.
-abbrev pub Lacks : ℕ → List ℕ → Type 0
-Lacks mark bs = AllByRecursion (λ b. b ≢ mark) bs
+abbrev pub HasNone : ℕ → List ℕ → Type 0
+HasNone mark bs = AllByRecursion (λ b. b ≢ mark) bs
 
 -- Cutting at the first mark is unique, and so is cutting at all marks: what is joined by them, and has none inside, comes apart again.
 pub record CutOnce (mark : ℕ) : Type 0 where
-  pub first : (p q r s : List ℕ) → Lacks mark p → Lacks mark q → p ++ (mark ∷ r) ≡ q ++ (mark ∷ s) → (p ≡ q) × (r ≡ s)
+  pub first : (p q r s : List ℕ) → HasNone mark p → HasNone mark q → p ++ (mark ∷ r) ≡ q ++ (mark ∷ s) → (p ≡ q) × (r ≡ s)
   pub joined : (bs : List ℕ) → join_with_byte mark (pieces mark bs) ≡ bs
-  pub apart : (p : List ℕ) (ps : List (List ℕ)) → AllByRecursion (Lacks mark) (p ∷ ps) → pieces mark (join_with_byte mark (p ∷ ps)) ≡ p ∷ ps
+  pub apart : (p : List ℕ) (ps : List (List ℕ)) → AllByRecursion (HasNone mark) (p ∷ ps) → pieces mark (join_with_byte mark (p ∷ ps)) ≡ p ∷ ps

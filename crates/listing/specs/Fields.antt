@@ -17,8 +17,8 @@ Takes read None after = read ≡ None
 Takes read (Some x) after = read ≡ Some (x, after)
 
 -- The number that bytes write.
-unfoldable pub number_of : List ℕ → Option ℕ
-number_of bs = if nat_le 1 (length bs) && (nat_le (length bs) 5 && (list_all is_ascii_digit bs && nat_le (value_after 0 bs) 65535)) then Some (value_after 0 bs) else None
+unfoldable pub number_read : List ℕ → Option ℕ
+number_read bs = if nat_le 1 (length bs) && (nat_le (length bs) 5 && (list_all is_ascii_digit bs && nat_le (value_after 0 bs) 65535)) then Some (value_after 0 bs) else None
 
 -- The first field, and the fields after it.
 abbrev pub field : List (List ℕ) → Option (List ℕ × List (List ℕ))
@@ -29,7 +29,7 @@ field (f ∷ fs) = Some (f, fs)
 abbrev pub number_field : List (List ℕ) → Option (ℕ × List (List ℕ))
 number_field fs = do
   f ← field fs
-  n ← number_of f.0
+  n ← number_read f.0
   Some (n, f.1)
 
 -- A side is 1 to 256.

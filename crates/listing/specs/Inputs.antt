@@ -91,15 +91,19 @@ FirstOut bytes zero = ⊥
 FirstOut bytes (suc zero) = LacksHeader bytes
 FirstOut bytes (suc (suc n)) = OutAfter bytes n
 
--- An input is accepted if it has at most 32,768 bytes.
+-- An input has at most so many bytes.
+abbrev pub most_bytes : ℕ
+most_bytes = 32768
+
+-- An input is accepted if it is no longer.
 abbrev pub Accepted : List ℕ → Header → List ℕ → Type 0
-Accepted bytes header readings = (length bytes ≤ 32768) × Listed bytes header readings
+Accepted bytes header readings = (length bytes ≤ most_bytes) × Listed bytes header readings
 
 -- Longer ones are told as too long, others by the first line out of form; want of memory tells nothing but that they are not too long.
 abbrev pub Refused : List ℕ → Unread → Type 0
-Refused bytes TooLong = 32768 < length bytes
-Refused bytes (Line k) = (length bytes ≤ 32768) × FirstOut bytes k
-Refused bytes Memory = length bytes ≤ 32768
+Refused bytes TooLong = most_bytes < length bytes
+Refused bytes (Line k) = (length bytes ≤ most_bytes) × FirstOut bytes k
+Refused bytes Memory = length bytes ≤ most_bytes
 
 -- Bytes are an input in one way, or have one first line out of form, and never both.
 pub record OneAnswer (bytes : List ℕ) : Type 0 where

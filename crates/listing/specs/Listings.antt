@@ -20,7 +20,7 @@ use Rattle.drawing.specs.declared.drawing.Drawing.{Drawing}
 use Rattle.drawing.specs.declared.refusal.OpenRefusal.{OpenRefusal}
 use Rattle.drawing.specs.declared.refusal.OpenRefusal.TheVariants.{ThinSide, ZeroThreshold, NoPair, Lacking, Mixed}
 use Rattle.listing.specs.ClosingLines.{end_text, refusal_text}
-use Rattle.listing.specs.Inputs.{FirstOut, Listed, OneAnswer}
+use Rattle.listing.specs.Inputs.{FirstOut, Listed, OneAnswer, most_bytes}
 use Rattle.listing.specs.declared.header.Header.{Header}
 
 -- Triangles are a closed surface: no directed edge is laid twice, and each is laid the other way too.
@@ -80,7 +80,7 @@ pub record ScanLists (header : Header) (readings out : List ℕ) : Type 0 where
 -- The output of the program. An input that is too long is refused with 17, and else the first line out of form with 18; any other
 -- input has a header and readings, and their output. Just one of these is so of any bytes.
 pub record Listing (bytes out : List ℕ) : Type 0 where
-  pub too_long : 32768 < length bytes → out ≡ refusal_text 17 0
-  pub out_of_form : length bytes ≤ 32768 → (k : ℕ) → FirstOut bytes k → out ≡ refusal_text 18 k
-  pub listed : length bytes ≤ 32768 → (header : Header) (readings : List ℕ) → Listed bytes header readings → ScanLists header readings out
+  pub too_long : most_bytes < length bytes → out ≡ refusal_text 17 0
+  pub out_of_form : length bytes ≤ most_bytes → (k : ℕ) → FirstOut bytes k → out ≡ refusal_text 18 k
+  pub listed : length bytes ≤ most_bytes → (header : Header) (readings : List ℕ) → Listed bytes header readings → ScanLists header readings out
   pub one : OneAnswer bytes
