@@ -1,3 +1,4 @@
 pub mod Numbering
 pub mod Same
 pub mod Numbered
+pub mod Rims

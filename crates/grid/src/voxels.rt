@@ -43,7 +43,7 @@ impl Sides {
 }
 
 // Whether a coordinate is the first or the last along a side.
-fn ends(at: u32, side: u32) -> bool
+pub(crate) fn ends(at: u32, side: u32) -> bool
     requires { at < side }
     ensures { MatchBool result ((at ≡ 0) ⊎ (at + 1 ≡ side)) ((at ≡ 0) ⊎ (at + 1 ≡ side) → ⊥) }
 {
