@@ -1,8 +1,8 @@
 -- What one cube of a drawing lays, from its mask. Assumes nothing.
-use Rattle.std.proofs.Common.{◌≡◌, ℕ, List, map, length, Ok, Some, Option, Result, MatchOption, MatchResult, sym, refl, ap, ◌∙◌, subst, inl, inr}
+use Rattle.std.proofs.Common.{◌≡◌, ℕ, List, map, length, Ok, Result, MatchResult, sym, refl, ap, ◌∙◌, subst, inl, inr, [], Bool, true, false, ◌⊎◌, ⊎_elim, MatchBool}
 use lib.ListN.{length-map}
 use Rattle.std.specs.Result.{IsErrAnd}
-use Rattle.std.proofs.lemmas.Option.{MatchOption-at_some}
+use Rattle.std.proofs.lemmas.Bool.{false≢true}
 use Rattle.grid.specs.Cubes.{Low}
 use Rattle.grid.specs.declared.sides.Sides.{Sides}
 use Rattle.grid.specs.declared.voxel.Voxel.{Voxel}
@@ -25,6 +25,7 @@ use Rattle.drawing.specs.declared.cube_at.CubeAt.{CubeAt}
 use Rattle.drawing.specs.declared.drawing.Drawing.{Drawing}
 use Rattle.drawing.specs.declared.progress.Ending.{Ending}
 use Rattle.cube.proofs.LinkNumbers.{link_below}
+use Rattle.cube.proofs.Worked.{worked}
 use Rattle.drawing.proofs.Lookups.{ok_before}
 
 -- The triangles of a mask that has the kinds of cube n, numbered, are what cube n lays.
@@ -68,10 +69,17 @@ module _ (m : Meaning) (d : Drawing) (n : ℕ) (at : CubeAt) where
         layable = layable at.sides d.pair (solids_of d.test m) at.low at.inside (kinds mask.0) cube read.1 rows;
       }
 
-  -- By the place that was found for the cube, and the mask that was read there, its errors mapped.
-  pub read_off : (found : Option CubeAt) (P : Type 0) (r : Result Mask Lacking) (s : Result Mask Ending) (Q : Lacking → Ending → Type 0) (mask : Mask) (cube : List CubeTriangle)
-      → found ≡ Some at → MatchOption found P (λ c. (c.sides ≡ d.sides) × (c.low ≡ low_of d.sides n))
+  -- By the mask that was read there, its errors mapped.
+  pub read_off : (r : Result Mask Lacking) (s : Result Mask Ending) (Q : Lacking → Ending → Type 0) (mask : Mask) (cube : List CubeTriangle)
+      → (at.sides ≡ d.sides) × (at.low ≡ low_of d.sides n)
       → s ≡ Ok mask → MatchResult r (λ y. s ≡ Ok y) (λ e. IsErrAnd s (Q e)) → CubeRead d.test m at.low r
       → cube ≡ triangles d.pair (kinds mask.0) → ReadOff m d n at cube
-  read_off found P r s Q mask cube e here is mapped read rows =
-      from_mask mask cube (MatchOption-at_some P _ at e here) (subst (CubeRead d.test m at.low) (ok_before r s Q mask mapped is) read) rows
+  read_off r s Q mask cube here is mapped read rows =
+      from_mask mask cube here (subst (CubeRead d.test m at.low) (ok_before r s Q mask mapped is) read) rows
+
+-- A mask of one kind has no triangles.
+pub none_of_one_kind : (p : Pair) (mask : Mask) (b : Bool) (Q : Type 0) → MatchBool b ((mask.0 ≡ 0) ⊎ (mask.0 ≡ 255)) Q → b ≡ true
+    → [] ≡ triangles p (kinds mask.0)
+none_of_one_kind p mask true Q h e =
+    ⊎_elim (λ e. sym (ap (λ n. triangles p (kinds n)) e ∙ worked.hollow p)) (λ e. sym (ap (λ n. triangles p (kinds n)) e ∙ worked.solid p)) h
+none_of_one_kind p mask false Q h e = absurd (false≢true e)

@@ -7,7 +7,7 @@ use Rattle.cube.specs.Lists.{In}
 use Rattle.tray.specs.Holding.{Held, KeepsRest, Lawful, Put, added_all}
 use Rattle.tray.specs.declared.tray.Full.{Full}
 use Rattle.tray.specs.declared.triangle.Triangle.{Triangle}
-use Rattle.tray.proofs.Trays.{Laid, laid_more}
+use Rattle.tray.proofs.Trays.{Laid, laid_more, laid_none}
 use Rattle.drawing.specs.Laying.{corners, LaidIn}
 
 -- What stands at a place of a list stands in it.
@@ -25,6 +25,12 @@ added_both h ts us =
 module _ {S : Type 0} {holds : S → Held} {keeps : ℕ → S → S → Type 0} (lawful : Lawful holds keeps) where
   went : {s e : S} {us : List (ℕ × ℕ × ℕ)} (h : LaidIn holds keeps s e us) → Laid holds keeps s h.triangles e
   went h = record { fit = h.fit; list = h.list; rest = h.rest }
+
+  -- Where nothing goes in, all stays as it was.
+  pub lays_none : (s : S) → LaidIn holds keeps s s []
+  lays_none s =
+      let none = laid_none lawful s in
+      record { triangles = []; corner = refl; fit = none.fit; list = none.list; rest = none.rest }
 
   -- Where there is room, one triangle more is not turned away.
   pub goes_in : (s m e : S) (us : List (ℕ × ℕ × ℕ)) (t : Triangle) (r : Result (Unit {0}) Full) → LaidIn holds keeps s m us

@@ -3,3 +3,4 @@ pub mod CubeLays
 pub mod Reaching
 pub mod Lookups
 pub mod Edges
+pub mod Steps

@@ -1,6 +1,6 @@
 // A cube where it lies in a scan: its voxels, its links and their numbers.
-ghost use Rattle.std.specs.Prelude.{◌≡◌, ◌<◌, ◌≤◌, MatchOption};
-ghost use Rattle.grid.specs.Cubes.{Low, cube_count};
+ghost use Rattle.std.specs.Prelude.{◌≡◌, ◌+◌, ◌<◌, ◌≤◌, MatchOption};
+ghost use Rattle.grid.specs.Cubes.{Low, cube_count, cube_number};
 ghost use Rattle.surface.specs.Places.{link_at, low_of, number_at, voxel_at};
 
 use grid::{Axis, Link, Sides, Voxel};
@@ -20,6 +20,30 @@ impl CubeAt {
     {
         let low = sides.cube_at(number)?;
         Some(CubeAt { sides, low })
+    }
+
+    // The cube with the next number; none after the last. By steps: dividing the number took as long as reading the cube.
+    pub(crate) fn next(self) -> Option<CubeAt>
+        ensures { MatchOption result (cube_count self.sides ≤ cube_number self.sides self.low + 1) (λ c. (c.sides ≡ self.sides) × (c.low ≡ low_of self.sides (cube_number self.sides self.low + 1))) }
+    {
+        let CubeAt { sides, low } = self;
+        let Voxel { x, y, z } = low;
+        if x + 2 < sides.x() {
+            let low = Voxel { x: x + 1, y, z };
+            Some(CubeAt { sides, low })
+        } else if y + 2 < sides.y() {
+            let low = Voxel { x: 0, y: y + 1, z };
+            Some(CubeAt { sides, low })
+        } else if z + 2 < sides.z() {
+            let low = Voxel {
+                x: 0,
+                y: 0,
+                z: z + 1,
+            };
+            Some(CubeAt { sides, low })
+        } else {
+            None
+        }
     }
 
     // Voxel i of the cube. By axis: a sum of voxels would ask its callers to stay below the last number, and no public call

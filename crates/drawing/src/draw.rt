@@ -5,6 +5,7 @@ ghost use Rattle.drawing.specs.Stretches.{Stretched};
 ghost use Rattle.grid.specs.Cubes.{cube_count};
 ghost use Rattle.tray.specs.Holding.{KeepsRest};
 
+use crate::cube_at::CubeAt;
 use crate::drawing::Drawing;
 use crate::progress::{DrawRefusal, Ending, Progress};
 use crate::stretch::Stretch;
@@ -22,8 +23,11 @@ impl Drawing {
     {
         let from = self.cubes;
         let mut laid = 0u32;
+        let mut next = CubeAt::new(self.sides, from);
         for number in from..end {
-            match self.lay_cube(scan, tray, number) {
+            let at = next.unwrap();
+            next = at.next();
+            match self.lay_cube(scan, tray, at, number) {
                 Ok(count) => laid += count,
                 Err(ending) => {
                     return Stretch {

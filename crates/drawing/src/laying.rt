@@ -1,14 +1,14 @@
 // One cube of a drawing: its triangles in the scan's link numbers, put into a tray together.
-ghost use Rattle.std.specs.Prelude.{◌≡◌, ◌<◌, ◌≤◌, map, length, MatchOption};
+ghost use Rattle.std.specs.Prelude.{◌≡◌, ◌<◌, ◌≤◌, map, length, MatchBool, MatchOption, ◌⊎◌};
 ghost use Rattle.drawing.specs.Laying.{CubeLaid, LaidIn, Layable, corners};
-ghost use Rattle.grid.specs.Cubes.{cube_count};
 ghost use Rattle.surface.specs.Laid.{numbered};
 ghost use Rattle.surface.specs.Laws.{Sound};
+ghost use Rattle.surface.specs.Places.{low_of};
 
 use crate::cube_at::CubeAt;
 use crate::drawing::Drawing;
 use crate::progress::Ending;
-use cube::{CubeTriangle, triangles};
+use cube::{CubeTriangle, Mask, triangles};
 use scan::Scan;
 use tray::{Tray, Triangle};
 
@@ -36,22 +36,33 @@ impl CubeAt {
     }
 }
 
+// Whether all voxels of a cube are of one kind.
+fn of_one_kind(mask: Mask) -> bool
+    ensures { MatchBool result ((mask.0 ≡ 0) ⊎ (mask.0 ≡ 255)) ((mask.0 ≡ 0) ⊎ (mask.0 ≡ 255) → ⊥) }
+{
+    mask.0 == 0 || mask.0 == 255
+}
+
 impl Drawing {
     // Draws one cube whole and answers how many triangles it has; or tells why not, and changes nothing.
     pub(crate) fn lay_cube<S: Scan, T: Tray>(
         &self,
         scan: &S,
         tray: &mut T,
+        at: CubeAt,
         number: u32,
     ) -> Result<u32, Ending>
-        requires cube { number < cube_count self.now.sides }
+        requires here { (at.sides ≡ self.now.sides) × (at.low ≡ low_of self.now.sides number) }
         ensures { CubeLaid T.Tray.holds T.Tray.keeps (S.Scan.means scan.now) self.now number tray.old tray.new result }
     {
-        let at = CubeAt::new(self.sides, number).unwrap();
         let mask = at.mask(scan, self.test).map_err(|lacking| Ending::Lacking {
             cube: at.low,
             fault: lacking.fault,
         })?;
+        // Most cubes of a scan are of one kind, and no row is copied for these.
+        if of_one_kind(mask) {
+            return Ok(0);
+        }
         let patch = triangles(mask, self.pair);
         let cube = patch.triangles();
         let free = tray.free();
