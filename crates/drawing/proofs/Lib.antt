@@ -4,3 +4,4 @@ pub mod Reaching
 pub mod Lookups
 pub mod Edges
 pub mod Steps
+pub mod Beside

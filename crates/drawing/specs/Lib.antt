@@ -8,3 +8,4 @@ pub mod Laying
 pub mod Draws
 pub mod Stretches
 pub mod Texts
+pub mod Counts

@@ -1,5 +1,5 @@
 // A cube where it lies in a scan: its voxels, its links and their numbers.
-ghost use Rattle.std.specs.Prelude.{◌≡◌, ◌+◌, ◌<◌, ◌≤◌, MatchOption};
+ghost use Rattle.std.specs.Prelude.{◌≡◌, ◌+◌, ◌<◌, ◌≤◌, IfSome, MatchOption};
 ghost use Rattle.grid.specs.Cubes.{Low, cube_count, cube_number};
 ghost use Rattle.surface.specs.Places.{link_at, low_of, number_at, voxel_at};
 
@@ -24,7 +24,8 @@ impl CubeAt {
 
     // The cube with the next number; none after the last. By steps: dividing the number took as long as reading the cube.
     pub(crate) fn next(self) -> Option<CubeAt>
-        ensures { MatchOption result (cube_count self.sides ≤ cube_number self.sides self.low + 1) (λ c. (c.sides ≡ self.sides) × (c.low ≡ low_of self.sides (cube_number self.sides self.low + 1))) }
+        ensures step { MatchOption result (cube_count self.sides ≤ cube_number self.sides self.low + 1) (λ c. (c.sides ≡ self.sides) × (c.low ≡ low_of self.sides (cube_number self.sides self.low + 1))) }
+        ensures along { IfSome result (λ c. 0 < c.low.x → c.low ≡ record { x = self.low.x + 1; y = self.low.y; z = self.low.z }) }
     {
         let CubeAt { sides, low } = self;
         let Voxel { x, y, z } = low;

@@ -24,11 +24,15 @@ impl Drawing {
         let from = self.cubes;
         let mut laid = 0u32;
         let mut next = CubeAt::new(self.sides, from);
+        let mut left = None;
         for number in from..end {
             let at = next.unwrap();
             next = at.next();
-            match self.lay_cube(scan, tray, at, number) {
-                Ok(count) => laid += count,
+            match self.lay_cube(scan, tray, at, left, number) {
+                Ok(cube) => {
+                    laid += cube.count;
+                    left = Some(cube.mask);
+                }
                 Err(ending) => {
                     return Stretch {
                         drawn: number - from,

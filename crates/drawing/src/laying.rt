@@ -1,6 +1,8 @@
 // One cube of a drawing: its triangles in the scan's link numbers, put into a tray together.
-ghost use Rattle.std.specs.Prelude.{◌≡◌, ◌<◌, ◌≤◌, map, length, MatchBool, MatchOption, ◌⊎◌};
+ghost use Rattle.std.specs.Prelude.{◌≡◌, ◌<◌, ◌≤◌, map, length, MatchBool, MatchOption, IfOk, Ok, ◌⊎◌};
+ghost use Rattle.drawing.specs.Counts.{count_of};
 ghost use Rattle.drawing.specs.Laying.{CubeLaid, LaidIn, Layable, corners};
+ghost use Rattle.drawing.specs.Readings.{Beside, CubeRead};
 ghost use Rattle.surface.specs.Laid.{numbered};
 ghost use Rattle.surface.specs.Laws.{Sound};
 ghost use Rattle.surface.specs.Places.{low_of};
@@ -11,6 +13,13 @@ use crate::progress::Ending;
 use cube::{CubeTriangle, Mask, triangles};
 use scan::Scan;
 use tray::{Tray, Triangle};
+
+// A cube that was drawn: how many triangles it has, and its mask, which tells half of the next one's.
+#[derive(Clone, Copy)]
+pub(crate) struct LaidCube {
+    pub(crate) count: u32,
+    pub(crate) mask: Mask,
+}
 
 impl CubeAt {
     // A triangle of the cube, by link numbers of the scan, corner by corner; none where these make no triangle.
@@ -50,18 +59,23 @@ impl Drawing {
         scan: &S,
         tray: &mut T,
         at: CubeAt,
+        left: Option<Mask>,
         number: u32,
-    ) -> Result<u32, Ending>
+    ) -> Result<LaidCube, Ending>
         requires here { (at.sides ≡ self.now.sides) × (at.low ≡ low_of self.now.sides number) }
-        ensures { CubeLaid T.Tray.holds T.Tray.keeps (S.Scan.means scan.now) self.now number tray.old tray.new result }
+        requires beside { Beside self.now.test (S.Scan.means scan.now) at.low left }
+        ensures laid { CubeLaid T.Tray.holds T.Tray.keeps (S.Scan.means scan.now) self.now number tray.old tray.new (count_of result) }
+        ensures read { IfOk result (λ c. CubeRead self.now.test (S.Scan.means scan.now) at.low (Ok c.mask)) }
     {
-        let mask = at.mask(scan, self.test).map_err(|lacking| Ending::Lacking {
-            cube: at.low,
-            fault: lacking.fault,
-        })?;
+        let mask = at
+            .mask(scan, self.test, left)
+            .map_err(|lacking| Ending::Lacking {
+                cube: at.low,
+                fault: lacking.fault,
+            })?;
         // Most cubes of a scan are of one kind, and no row is copied for these.
         if of_one_kind(mask) {
-            return Ok(0);
+            return Ok(LaidCube { count: 0, mask });
         }
         let patch = triangles(mask, self.pair);
         let cube = patch.triangles();
@@ -73,6 +87,9 @@ impl Drawing {
             });
         }
         at.lay(cube, tray);
-        Ok(cube.len() as u32)
+        Ok(LaidCube {
+            count: cube.len() as u32,
+            mask,
+        })
     }
 }
