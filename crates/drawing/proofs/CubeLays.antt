@@ -1,5 +1,5 @@
 -- What one cube of a drawing lays, from its mask. Assumes nothing.
-use Rattle.std.proofs.Common.{◌≡◌, ℕ, List, map, length, Ok, Result, MatchResult, sym, refl, ap, ◌∙◌, subst, inl, inr, [], Bool, true, false, ◌⊎◌, ⊎_elim, MatchBool}
+use Rattle.std.proofs.Common.{◌≡◌, ℕ, ◌<◌, List, map, length, Ok, Result, MatchResult, sym, refl, ap, ◌∙◌, subst, inl, inr, [], Bool, true, false, ◌⊎◌, ⊎_elim, MatchBool}
 use lib.ListN.{length-map}
 use Rattle.std.specs.Result.{IsErrAnd}
 use Rattle.std.proofs.lemmas.Bool.{false≢true}
@@ -18,12 +18,13 @@ use Rattle.surface.specs.Laid.{numbered, laid_at}
 use Rattle.surface.proofs.Membership.{in_map}
 use Rattle.surface.proofs.Faces.{edge_links, triangle_edge}
 use Rattle.surface.proofs.Rule.{sound_at}
-use Rattle.drawing.specs.Laying.{cube_lays, Layable, Readable}
+use Rattle.drawing.specs.Laying.{cube_lays, Halts, Layable, Readable}
 use Rattle.drawing.specs.Readings.{CubeRead}
 use Rattle.drawing.specs.Solids.{solids_of}
 use Rattle.drawing.specs.declared.cube_at.CubeAt.{CubeAt}
 use Rattle.drawing.specs.declared.drawing.Drawing.{Drawing}
 use Rattle.drawing.specs.declared.progress.Ending.{Ending}
+use Rattle.drawing.specs.declared.progress.Ending.TheVariants.{Full}
 use Rattle.cube.proofs.LinkNumbers.{link_below}
 use Rattle.cube.proofs.Worked.{worked}
 use Rattle.drawing.proofs.Lookups.{ok_before}
@@ -76,6 +77,10 @@ module _ (m : Meaning) (d : Drawing) (n : ℕ) (at : CubeAt) where
       → cube ≡ triangles d.pair (kinds mask.0) → ReadOff m d n at cube
   read_off r s Q mask cube here is mapped read rows =
       from_mask mask cube here (subst (CubeRead d.test m at.low) (ok_before r s Q mask mapped is) read) rows
+
+  -- Where it has more triangles than there are free places, it halts.
+  pub halts : (cube : List CubeTriangle) (free : ℕ) (e : Ending) → ReadOff m d n at cube → e ≡ Full (length cube) free → free < length cube → Halts m d n free e
+  halts cube free e off is less = subst (Halts m d n free) (sym is) (off.readable, off.count, refl, less)
 
 -- A mask of one kind has no triangles.
 pub none_of_one_kind : (p : Pair) (mask : Mask) (b : Bool) (Q : Type 0) → MatchBool b ((mask.0 ≡ 0) ⊎ (mask.0 ≡ 255)) Q → b ≡ true

@@ -48,6 +48,13 @@ pub record LaidIn {S : Type 0} (holds : S → Held) (keeps : ℕ → S → S →
   pub list : holds after ≡ added_all (holds before) triangles
   pub rest : KeepsRest holds keeps before after
 
+-- The triangles of a cube at a low voxel are laid, or there are more than free places and nothing changes.
+abbrev pub MaskLaid : {S : Type 0} → (S → Held) → (ℕ → S → S → Type 0) → Sides → Voxel → List CubeTriangle → S → S → Result ℕ Ending → Type 0
+MaskLaid holds keeps s low ts before after (Ok count) =
+    (count ≡ length ts) × (count ≤ 6) × LaidIn holds keeps before after (map (numbered s low) ts)
+MaskLaid holds keeps s low ts before after (Err e) =
+    (e ≡ Full (length ts) (holds before).free) × ((holds before).free < length ts) × (after ≡ before)
+
 -- Why cube n is not drawn, with so many places free: it lacks a reading, or it has more triangles.
 abbrev pub Halts : Meaning → Drawing → ℕ → ℕ → Ending → Type 0
 Halts m d n free Done = ⊥

@@ -1,7 +1,9 @@
 // One cube of a drawing: its triangles in the scan's link numbers, put into a tray together.
 ghost use Rattle.std.specs.Prelude.{◌≡◌, ◌<◌, ◌≤◌, map, length, MatchBool, MatchOption, IfOk, Ok, ◌⊎◌};
+ghost use Rattle.cube.specs.Cube.{kinds};
+ghost use Rattle.cube.specs.Triangles.{triangles as the-triangles};
 ghost use Rattle.drawing.specs.Counts.{count_of};
-ghost use Rattle.drawing.specs.Laying.{CubeLaid, LaidIn, Layable, corners};
+ghost use Rattle.drawing.specs.Laying.{CubeLaid, LaidIn, Layable, MaskLaid, corners};
 ghost use Rattle.drawing.specs.Readings.{Beside, CubeRead};
 ghost use Rattle.surface.specs.Laid.{numbered};
 ghost use Rattle.surface.specs.Laws.{Sound};
@@ -53,6 +55,26 @@ fn of_one_kind(mask: Mask) -> bool
 }
 
 impl Drawing {
+    // Puts the triangles of a mask into a tray, as those of the cube, and answers how many there are; or tells that there is too
+    // little room, and changes nothing. Apart from `lay_cube`, and never put into it: that a patch is made is paid for at once.
+    #[inline(never)]
+    fn lay_mask<T: Tray>(&self, tray: &mut T, at: CubeAt, mask: Mask) -> Result<u32, Ending>
+        requires { Layable at.sides at.low (the-triangles self.now.pair (kinds mask.0)) }
+        ensures { MaskLaid T.Tray.holds T.Tray.keeps at.sides at.low (the-triangles self.now.pair (kinds mask.0)) tray.old tray.new result }
+    {
+        let patch = triangles(mask, self.pair);
+        let cube = patch.triangles();
+        let free = tray.free();
+        if free < cube.len() {
+            return Err(Ending::Full {
+                triangles: cube.len() as u32,
+                free,
+            });
+        }
+        at.lay(cube, tray);
+        Ok(cube.len() as u32)
+    }
+
     // Draws one cube whole and answers how many triangles it has; or tells why not, and changes nothing.
     pub(crate) fn lay_cube<S: Scan, T: Tray>(
         &self,
@@ -73,23 +95,13 @@ impl Drawing {
                 cube: at.low,
                 fault: lacking.fault,
             })?;
-        // Most cubes of a scan are of one kind, and no row is copied for these.
+        // Most cubes of a scan are of one kind, and no triangles are looked up for these.
         if of_one_kind(mask) {
             return Ok(LaidCube { count: 0, mask });
         }
-        let patch = triangles(mask, self.pair);
-        let cube = patch.triangles();
-        let free = tray.free();
-        if free < cube.len() {
-            return Err(Ending::Full {
-                triangles: cube.len() as u32,
-                free,
-            });
+        match self.lay_mask(tray, at, mask) {
+            Ok(count) => Ok(LaidCube { count, mask }),
+            Err(ending) => Err(ending),
         }
-        at.lay(cube, tray);
-        Ok(LaidCube {
-            count: cube.len() as u32,
-            mask,
-        })
     }
 }

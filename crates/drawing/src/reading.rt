@@ -12,6 +12,7 @@ use scan::{Lacking, Scan};
 impl CubeAt {
     // Whether voxel i of the cube is solid; refused where it lacks a reading. A voxel that the cube has from the one before it
     // along x is told by that one's mask, where it is at hand: else each voxel would be read for eight cubes.
+    #[inline(always)]
     fn kind<S: Scan>(
         self,
         scan: &S,
@@ -36,6 +37,7 @@ impl CubeAt {
 
     // The mask of the cube in a scan, by that of the cube before it, if it is at hand; refused with the first of its voxels
     // that lacks a reading.
+    #[inline(always)]
     pub(crate) fn mask<S: Scan>(
         self,
         scan: &S,
