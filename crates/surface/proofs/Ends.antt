@@ -58,7 +58,7 @@ close_at d e x =
     (omega arith, omega arith)
 
 module _ (u : Voxel) where
-  apart_at : (i j : ℕ) → apart (voxel_at u i) (voxel_at u j) ≡ cube_apart i j
+  pub apart_at : (i j : ℕ) → apart (voxel_at u i) (voxel_at u j) ≡ cube_apart i j
   apart_at i j =
       ap₂ (λ a b. a + b)
       (ap₂ (λ a b. differ a + differ b)

@@ -5,7 +5,9 @@ pub mod Offsets
 pub mod Faces
 pub mod Sources
 pub mod Rule
+pub mod Worked
 pub mod KindsAt
+pub mod Rejoined
 pub mod Placement
 pub mod Corners
 pub mod Ends

@@ -1,9 +1,8 @@
 -- The voxels and the links of a cube lie where its low voxel says. Assumes nothing.
 use mathlib.Core.Path.{◌≡◌, refl, sym, subst}
-use mathlib.Core.Logic.{◌⊎◌, inl, inr, ⊎_elim}
+use mathlib.Core.Logic.{⊎_elim}
 use mathlib.Core.List.{map}
 use Prim.Native.Nat.{ℕ, zero, suc, ◌+◌, ◌<◌}
-use native.Mathlib.Nat.{eq-or-lt_of_le}
 use native.Mathlib.Omega.{arith}
 use lib.Dec.{T, eqb, eqb→eq}
 use Rattle.std.specs.List.{list_any}
@@ -22,6 +21,7 @@ use Rattle.surface.specs.Placing.{further, AllPlaced}
 use Rattle.surface.proofs.Membership.{in_map, map_in}
 use Rattle.surface.proofs.Numbered.{upper_at, within_at}
 use Rattle.surface.proofs.KindsAt.{kind_at}
+use Rattle.surface.proofs.Rejoined.{either_of, joined_in}
 
 -- A step of 0 or 1 is added to a coordinate.
 added : (d x : ℕ) → d < 2 → onward d x ≡ x + d
@@ -37,13 +37,7 @@ placed_at low i =
       added (dz i) low.z (omega arith),
     )
 
--- A coordinate of a voxel of a cube is one of two, and one that has the next in the cube is the first of them.
-either_of : (low a : ℕ) → Spans low a → (a ≡ low) ⊎ (a ≡ suc low)
-either_of low a h = ⊎_elim (λ e. inl (sym e)) (λ l. inr (second l)) (eq-or-lt_of_le h.0)
-  where
-    second : low < a → a ≡ suc low
-    second l = omega (arith, h.1)
-
+-- A coordinate of a voxel of a cube that has the next in the cube is the first of the two.
 first_of : (low a : ℕ) → Spans low a → Spans low (a + 1) → a ≡ low
 first_of low a h k = omega arith
 
@@ -94,4 +88,5 @@ all_placed solid low =
       ends = λ l i. sym (upper_at low l i);
       within = ends_within low;
       every = λ k. among_links low k.lower k.axis;
+      joined = λ c a b. joined_in c solid low;
     }

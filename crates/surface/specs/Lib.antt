@@ -5,3 +5,4 @@ pub mod Placing
 pub mod Laws
 pub mod Fronts
 pub mod Whole
+pub mod Samples

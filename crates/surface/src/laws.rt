@@ -2,6 +2,7 @@
 ghost use Rattle.surface.specs.Fronts.{OpenAtFront, Closed};
 ghost use Rattle.surface.specs.Laws.{LaidByRule, Mirrored, AllCornered, AllJoined, LaidOnce};
 ghost use Rattle.surface.specs.Placing.{AllPlaced};
+ghost use Rattle.surface.specs.Samples.{Samples};
 ghost use Rattle.surface.specs.Whole.{AllWhole};
 
 // The voxels, kinds and links of a cube are those of the scan where its low voxel places it.
@@ -47,4 +48,9 @@ pub fn closed()
 // All laws of the first n cubes together.
 pub fn all_whole()
     ensures { AllWhole }
+{}
+
+// Worked cases, from the definitions: which way round triangles and their edges go.
+pub fn samples()
+    ensures { Samples }
 {}

@@ -6,5 +6,5 @@ mod laws;
 
 pub use laws::{
     all_cornered, all_joined, all_placed, all_whole, closed, laid_by_rule, laid_once, mirrored,
-    open_at_front,
+    open_at_front, samples,
 };
