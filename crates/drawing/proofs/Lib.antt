@@ -5,3 +5,4 @@ pub mod Lookups
 pub mod Edges
 pub mod Steps
 pub mod Beside
+pub mod LinkNumbers

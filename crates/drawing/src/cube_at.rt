@@ -1,9 +1,9 @@
 // A cube where it lies in a scan: its voxels, its links and their numbers.
 ghost use Rattle.std.specs.Prelude.{◌≡◌, ◌+◌, ◌<◌, ◌≤◌, IfSome, MatchOption};
 ghost use Rattle.grid.specs.Cubes.{Low, cube_count, cube_number};
-ghost use Rattle.surface.specs.Places.{link_at, low_of, number_at, voxel_at};
+ghost use Rattle.surface.specs.Places.{low_of, number_at, voxel_at};
 
-use grid::{Axis, Link, Sides, Voxel};
+use grid::{Sides, Voxel};
 
 // A cube of a scan with these sides, by its low voxel.
 #[derive(Clone, Copy)]
@@ -60,24 +60,15 @@ impl CubeAt {
         }
     }
 
-    // A link of the cube. Its number is bounded by a clause, here and in the calls on it: it comes from the table of triangles,
-    // whose places are plain numbers, and a type for it would be made and taken apart for one look-up.
-    fn link(self, link: u8) -> Link
-        requires { link < 12 }
-        ensures { result ≡ link_at self.low link }
-    {
-        let (lower, _) = cube::ends(link).unwrap();
-        Link {
-            lower: self.voxel(lower),
-            axis: Axis::try_from(u32::from(link / 4)).unwrap(),
-        }
-    }
-
-    // The number that a link of the cube has in the scan.
+    // The number that a link of the cube has in the scan, worked out from that of its lower voxel. The number in the
+    // cube is bounded by a clause, here and in the calls on it: it comes from the table of triangles, whose places are plain
+    // numbers, and a type for it would be made and taken apart for one look-up.
     pub(crate) fn number_of(self, link: u8) -> u32
         requires { link < 12 }
         ensures { result ≡ number_at self.sides self.low link }
     {
-        self.sides.link_number(self.link(link)).unwrap()
+        let (lower, _) = cube::ends(link).unwrap();
+        let number = self.sides.voxel_number(self.voxel(lower)).unwrap();
+        3 * number + u32::from(link / 4)
     }
 }

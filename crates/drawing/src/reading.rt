@@ -31,8 +31,10 @@ impl CubeAt {
             return Ok(mask.is_solid(i + 1));
         }
         let voxel = self.voxel(i);
-        let reading = scan.read(voxel).map_err(|fault| Lacking { voxel, fault })?;
-        Ok(test.is_solid(reading))
+        match scan.read(voxel) {
+            Ok(reading) => Ok(test.is_solid(reading)),
+            Err(fault) => Err(Lacking { voxel, fault }),
+        }
     }
 
     // The mask of the cube in a scan, by that of the cube before it, if it is at hand; refused with the first of its voxels
