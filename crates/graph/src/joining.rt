@@ -1,7 +1,8 @@
 // Which voxels of a cube are joined.
 ghost use Rattle.std.specs.Prelude.{◌≡◌, ◌<◌, MatchBool};
 ghost use Rattle.cube.specs.Cube.{kinds};
-ghost use Rattle.cube.specs.Joined.{Joined, connected as is_connected, touches, taken, spread, begun, seed, reached};
+ghost use Rattle.cube.specs.Joined.{Joined, touches, taken, spread, seed, reached};
+ghost use Rattle.cube.specs.Pairs.{Connected};
 ghost use Rattle.graph.specs.Solids.{kinds_of};
 
 use crate::solid::Solid;
@@ -9,9 +10,9 @@ use cube::{Connectedness, Mask};
 use std::array;
 
 // Whether two voxels of a cube are connected: they differ in at least one coordinate and in no more than allowed. By axis,
-// since coordinates are what is counted.
+// since coordinates are what is counted; of a number from 8 on the lowest three bits count.
 pub fn connected(c: Connectedness, i: u8, j: u8) -> bool
-    ensures { result ≡ is_connected c i j }
+    ensures { MatchBool result (Connected c i j) (Connected c i j → ⊥) }
 {
     let x = i % 2 != j % 2;
     let y = i / 2 % 2 != j / 2 % 2;
