@@ -27,11 +27,11 @@ impl Drawing {
         let mut left = None;
         for number in from..end {
             let at = next.unwrap();
-            next = at.next();
             match self.lay_cube(scan, tray, at, left, number) {
                 Ok(cube) => {
                     laid += cube.count;
                     left = Some(cube.mask);
+                    next = at.next();
                 }
                 Err(ending) => {
                     return Stretch {
