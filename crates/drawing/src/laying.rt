@@ -25,6 +25,7 @@ pub(crate) struct LaidCube {
 
 impl CubeAt {
     // A triangle of the cube, by link numbers of the scan, corner by corner; none where these make no triangle.
+    #[inline(always)]
     fn triangle(self, t: CubeTriangle) -> Option<Triangle>
         requires { (t.0 < 12) × (t.1 < 12) × (t.2 < 12) }
         ensures { MatchOption result (Sound (numbered self.sides self.low t) → ⊥) (λ u. corners u ≡ numbered self.sides self.low t) }

@@ -1,11 +1,18 @@
 // Exports for C.
 #![tactic(auto)]
 
-use drawing::{Asked, Drawing, Ending, Letter, Progress, SolidTest};
+ghost use Rattle.std.specs.Prelude.{◌≡◌};
+ghost use Rattle.exported.specs.Opens.{BlockMade, OpenTold, asked_of};
+
+use drawing::{Asked, Drawing, Ending, Letter, SolidTest};
 use scan::{Block, Lengths, Scan};
 use std::alloc::Global;
 use tray::{RecordTray, TextTray, Tray};
 
+// The answer where there is no memory.
+const NO_MEMORY: u8 = 255;
+
+// What is asked: the sides, the budget of each draw, the threshold, the two numbers of a pair, and whether the letter is L.
 #[repr(C)]
 #[derive(Clone, Copy)]
 pub struct Asking {
@@ -19,6 +26,7 @@ pub struct Asking {
     pub below: bool,
 }
 
+// How a scan was drawn: the number of the refusal or ending, or 0; the cubes drawn, by how many draws, and the triangles laid.
 #[repr(C)]
 #[derive(Clone, Copy)]
 pub struct Told {
@@ -37,7 +45,10 @@ fn refused(number: u8) -> Told {
     }
 }
 
-fn asked(asking: &Asking) -> Asked {
+// What is asked of the opening.
+fn asked(asking: &Asking) -> Asked
+    ensures { result ≡ asked_of asking.now }
+{
     let letter = if asking.below { Letter::L } else { Letter::H };
     Asked {
         test: SolidTest {
@@ -82,28 +93,30 @@ fn draw_all<T: Tray>(block: &Block, asking: &Asking, tray: &mut T) -> Told {
     }
 }
 
-fn block(heap: Global, asking: &Asking, readings: &[u16]) -> Result<Block, u8> {
-    let mut values = match Vec::with_capacity(heap, readings.len()) {
-        Ok(values) => values,
-        Err(_) => return Err(255),
-    };
-    if values.extend_from_slice(readings).is_err() {
-        return Err(255);
-    }
+// The block of the readings, 1 micrometre apart; else the number of the refusal, or 255 where there is no memory.
+fn block(heap: Global, asking: &Asking, readings: &[u16]) -> Result<Block, u8>
+    ensures { BlockMade asking.now readings.now result }
+{
     let sides = Lengths {
         x: asking.x,
         y: asking.y,
         z: asking.z,
     };
     let spacing = Lengths { x: 1, y: 1, z: 1 };
-    match Block::new(sides, spacing, values) {
-        Ok(block) => Ok(block),
-        Err(refusal) => Err(refusal.into()),
+    match Vec::from_slice(heap, readings) {
+        Err(_) => Err(NO_MEMORY),
+        Ok(values) => match Block::new(sides, spacing, values) {
+            Ok(block) => Ok(block),
+            Err(refusal) => Err(refusal.into()),
+        },
     }
 }
 
+// Opens a drawing of the readings: 0, or the number of the refusal, or 255 where there is no memory.
 #[unsafe(no_mangle)]
-pub extern "C" fn exported_open(heap: Global, asking: &Asking, readings: &[u16]) -> u8 {
+pub extern "C" fn exported_open(heap: Global, asking: &Asking, readings: &[u16]) -> u8
+    ensures { OpenTold asking.now readings.now result }
+{
     match block(heap, asking, readings) {
         Err(number) => number,
         Ok(block) => match Drawing::open(&block, asked(asking)) {
@@ -126,7 +139,7 @@ pub extern "C" fn exported_records(
     };
     let mut tray = match RecordTray::new(heap, numbers.len() / 3) {
         Ok(tray) => tray,
-        Err(_) => return refused(255),
+        Err(_) => return refused(NO_MEMORY),
     };
     let told = draw_all(&block, asking, &mut tray);
     for (to, t) in numbers.chunks_exact_mut(3).zip(tray.triangles()) {
@@ -148,7 +161,7 @@ pub extern "C" fn exported_text(
     };
     let bytes = match Vec::from_elem(heap, 0u8, text.len()) {
         Ok(bytes) => bytes,
-        Err(_) => return refused(255),
+        Err(_) => return refused(NO_MEMORY),
     };
     let mut tray = TextTray::new(bytes);
     let told = draw_all(&block, asking, &mut tray);
