@@ -105,3 +105,22 @@ fn poured_until_full(rt: HostRuntime) -> Result<(), Fail> {
     assert_eq!(rt; lines.free(), 1);
     Ok(())
 }
+
+#[test]
+fn printed_refusals(rt: HostRuntime) -> Result<(), Fail> {
+    let heap = rt.alloc();
+    let line = TextRefusal::Line(3);
+    assert_eq!(rt;
+        format!(in heap; "{line}")?.as_str(),
+        "line 3 is the line of no triangle"
+    );
+    let room = TextRefusal::NoRoom {
+        triangles: 2,
+        free: 1,
+    };
+    assert_eq!(rt;
+        format!(in heap; "{room}")?.as_str(),
+        "2 triangles want a place and 1 are free"
+    );
+    Ok(())
+}
