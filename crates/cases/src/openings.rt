@@ -1,6 +1,6 @@
 // Small blocks opened and refused, and the masks of their cubes.
 use crate::block::block;
-use drawing::{Asked, Drawing, Letter, SolidTest, cube_mask};
+use drawing::{Asked, Drawing, Ending, Letter, OpenRefusal, SolidTest, cube_mask};
 use grid::Voxel;
 use scan::{Block, Cause, Fault, Lacking};
 use std::alloc::Global;
@@ -69,5 +69,38 @@ fn lacking_inside_is_no_refusal(rt: HostRuntime) -> Result<(), Fail> {
     assert_eq!(rt; refused(&block(heap, [3, 3, 3], &values)?, 5), None);
     values[14] = 65_535;
     assert_eq!(rt; refused(&block(heap, [3, 3, 3], &values)?, 5), Some(7));
+    Ok(())
+}
+
+// What the demo does not print.
+#[test]
+fn printed_refusals(rt: HostRuntime) -> Result<(), Fail> {
+    let heap = rt.alloc();
+    let voxel = Voxel { x: 1, y: 2, z: 3 };
+    let fault = Fault::own(Cause::NoReading, voxel);
+    let lacking = OpenRefusal::Lacking { voxel, fault };
+    assert_eq!(rt;
+        format!(in heap; "{lacking}")?.as_str(),
+        "refused with 7, no reading at (1,2,3)"
+    );
+    let stopped = Ending::Lacking { cube: voxel, fault };
+    assert_eq!(rt;
+        format!(in heap; "{stopped}")?.as_str(),
+        "stopped with 11, no reading in the cube at (1,2,3)"
+    );
+    let test = SolidTest {
+        threshold: 5,
+        letter: Letter::H,
+    };
+    let small = block(heap, [2, 2, 2], &[0; 8])?;
+    let open = Drawing::open(&small, Asked { test, s: 18, h: 6 })?;
+    let left = open.close().err();
+    assert!(rt; left.is_some());
+    if let Some(left) = left {
+        assert_eq!(rt;
+            format!(in heap; "{left}")?.as_str(),
+            "refused with 13, cubes are left"
+        );
+    }
     Ok(())
 }
