@@ -17,12 +17,17 @@ use Rattle.surface.proofs.Rule.{laid_next}
 use Rattle.drawing.specs.Draws.{Allowed, Greatest, Ends, Drawn}
 use Rattle.drawing.specs.Laying.{corners, surface, cube_lays, Readable, FirstFault, Halts, CubeLaid}
 use Rattle.drawing.specs.Solids.{solids_of}
-use Rattle.drawing.specs.Stretches.{Reached, Stretched, ending_of}
+use Rattle.drawing.specs.Stretches.{Reached, Stretched}
 use Rattle.drawing.specs.declared.drawing.Drawing.{Drawing}
 use Rattle.drawing.specs.declared.stretch.Stretch.{Stretch}
 use Rattle.drawing.specs.declared.progress.Ending.{Ending}
 use Rattle.drawing.specs.declared.progress.Ending.TheVariants.{Done, Budget, Lacking, Full}
 use Rattle.drawing.proofs.Lays.{laid_both}
+
+-- How a draw ends: where no cube stopped it, it is done if none is left, and else its budget is used up.
+abbrev ending_of : Option Ending → ℕ → Ending
+ending_of (Some e) left = e
+ending_of None left = cond (left == 0) Done Budget
 
 -- A scan has at most 256 to the third cubes.
 pub cubes_bound : (s : Sides) → cube_count s ≤ 16777216

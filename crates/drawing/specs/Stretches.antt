@@ -1,13 +1,11 @@
 -- Cubes drawn in a row, up to a number or to the first that cannot be drawn. Assumes nothing.
-use Rattle.std.specs.Prelude.{◌≡◌, ℕ, ◌+◌, ◌*◌, ◌<◌, ◌≤◌, cond, List, ◌++◌, map, length, Some, None, Option, MatchOption, ◌==◌}
+use Rattle.std.specs.Prelude.{◌≡◌, ℕ, ◌+◌, ◌*◌, ◌<◌, ◌≤◌, List, ◌++◌, map, length, MatchOption}
 use Rattle.scan.specs.Meaning.{Meaning}
 use Rattle.tray.specs.Holding.{Held, added_all, KeepsRest}
 use Rattle.tray.specs.declared.triangle.Triangle.{Triangle}
 use Rattle.surface.specs.Places.{low_of}
 use Rattle.drawing.specs.Laying.{corners, surface, Readable, Halts}
 use Rattle.drawing.specs.declared.drawing.Drawing.{Drawing}
-use Rattle.drawing.specs.declared.progress.Ending.{Ending}
-use Rattle.drawing.specs.declared.progress.Ending.TheVariants.{Done, Budget}
 use Rattle.drawing.specs.declared.stretch.Stretch.{Stretch}
 
 -- The cubes from where a drawing stands up to, and without, cube n are drawn, in order and whole, into a tray.
@@ -25,8 +23,3 @@ pub record Reached {S : Type 0} (holds : S → Held) (keeps : ℕ → S → S �
 pub record Stretched {S : Type 0} (holds : S → Held) (keeps : ℕ → S → S → Type 0) (m : Meaning) (d : Drawing) (end : ℕ) (before after : S) (r : Stretch) : Type 0 where
   pub reached : Reached holds keeps m d (d.cubes + r.drawn) before after r.laid
   pub ending : MatchOption r.stop (d.cubes + r.drawn ≡ end) (λ e. (d.cubes + r.drawn < end) × Halts m d (d.cubes + r.drawn) (holds after).free e)
-
--- How a draw ends: where no cube stopped it, it is done if none is left, and else its budget is used up.
-abbrev pub ending_of : Option Ending → ℕ → Ending
-ending_of (Some e) left = e
-ending_of None left = cond (left == 0) Done Budget

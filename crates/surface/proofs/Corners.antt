@@ -16,7 +16,7 @@ use Rattle.cube.proofs.Lawful.{lawful}
 use Rattle.surface.specs.Places.{Solids, kinds_at, link_at, number_at, low_of}
 use Rattle.surface.specs.Laid.{laid, corners_of, corners}
 use Rattle.surface.specs.Joined.{crosses}
-use Rattle.surface.specs.Laws.{Drawn, AllCornered}
+use Rattle.surface.specs.Laws.{OfDrawnCube, AllCornered}
 use Rattle.surface.proofs.Membership.{in_map, map_in, kept, keeps}
 use Rattle.surface.proofs.Numbered.{low_is, links_at}
 use Rattle.surface.proofs.KindsAt.{crossing_at}
@@ -48,7 +48,7 @@ module _ (s : Sides) (p : Pair) (solid : Solids) (n : ℕ) (h : n ≤ cube_count
         crosses = subst T (crossing_at solid u q.0 c.0) c.1;
       }
 
-  every_corner : (k : Link) → Drawn s n k → T (crosses solid k) → In (link_number_of s k) (corners (laid s p solid n))
+  every_corner : (k : Link) → OfDrawnCube s n k → T (crosses solid k) → In (link_number_of s k) (corners (laid s p solid n))
   every_corner k d t =
       let u = low_of s d.cube in
       let r = map_in (link_at u) k link_numbers d.link in
@@ -62,7 +62,7 @@ module _ (s : Sides) (p : Pair) (solid : Solids) (n : ℕ) (h : n ≤ cube_count
       let lt : f.cube < cube_count s = omega (arith, f.drawn) in
       links_at s (low_of s f.cube) (low_is s f.cube lt) f.link f.link_of
 
-  only_corner : (k : Link) → Links s k → (f : Found (link_number_of s k)) → Drawn s n k × T (crosses solid k)
+  only_corner : (k : Link) → Links s k → (f : Found (link_number_of s k)) → OfDrawnCube s n k × T (crosses solid k)
   only_corner k l f =
       let j = link_at (low_of s f.cube) f.link in
       let same : k ≡ j = link_unique s k j l.0 (found_links (link_number_of s k) f).0 f.number in (

@@ -41,7 +41,7 @@ Mirrored =
     → laid s (swap p) (hollow_of solid) n ≡ map turn_over (laid s p solid n)
 
 -- A link belongs to one of the first n cubes.
-pub record Drawn (s : Sides) (n : ℕ) (k : Link) : Type 0 where
+pub record OfDrawnCube (s : Sides) (n : ℕ) (k : Link) : Type 0 where
   pub cube : ℕ
   pub drawn : cube < n
   pub link : In k (map (link_at (low_of s cube)) link_numbers)
@@ -49,9 +49,9 @@ pub record Drawn (s : Sides) (n : ℕ) (k : Link) : Type 0 where
 -- Every link of a drawn cube between a solid and a hollow voxel is a corner of a laid triangle. Every corner is a link
 -- of the scan, and no other link is a corner.
 pub record Cornered (s : Sides) (p : Pair) (solid : Solids) (n : ℕ) : Type 0 where
-  pub every : (k : Link) → Drawn s n k → T (crosses solid k) → In (link_number_of s k) (corners (laid s p solid n))
+  pub every : (k : Link) → OfDrawnCube s n k → T (crosses solid k) → In (link_number_of s k) (corners (laid s p solid n))
   pub links : (m : ℕ) → In m (corners (laid s p solid n)) → (k : Link) × Links s k × (m ≡ link_number_of s k)
-  pub only : (k : Link) → Links s k → In (link_number_of s k) (corners (laid s p solid n)) → Drawn s n k × T (crosses solid k)
+  pub only : (k : Link) → Links s k → In (link_number_of s k) (corners (laid s p solid n)) → OfDrawnCube s n k × T (crosses solid k)
 
 abbrev pub AllCornered : Type 0
 AllCornered = Always Cornered

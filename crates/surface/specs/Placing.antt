@@ -25,7 +25,7 @@ pub record JoinedIn (c : Connectedness) (solid : Solids) (low a b : Voxel) : Typ
   pub joined : CubeJoined c (kinds_at solid low) from to
 
 -- A cube is placed as its low voxel says.
-pub record Placed (solid : Solids) (low : Voxel) : Type 0 where
+pub record CubePlaced (solid : Solids) (low : Voxel) : Type 0 where
   -- Voxel i lies its steps along the axes from the low voxel, and the cube has there the kind that the scan has.
   pub voxel : (i : ℕ) → In i voxels → voxel_at low i ≡ further low (dx i) (dy i) (dz i)
   pub kind : (i : ℕ) → In i voxels → solid_in (kinds_at solid low) i ≡ solid (voxel_at low i)
@@ -39,4 +39,4 @@ pub record Placed (solid : Solids) (low : Voxel) : Type 0 where
   pub joined : (c : Connectedness) (a b : Voxel) → Joined c solid low a b → JoinedIn c solid low a b
 
 abbrev pub AllPlaced : Type 0
-AllPlaced = (solid : Solids) (low : Voxel) → Placed solid low
+AllPlaced = (solid : Solids) (low : Voxel) → CubePlaced solid low

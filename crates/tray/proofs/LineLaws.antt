@@ -6,7 +6,7 @@ use Rattle.std.proofs.lemmas.List.{take_at, drop_at, drop-drop}
 use Rattle.tray.specs.declared.triangle.Triangle.{Triangle}
 use Rattle.tray.specs.Corners.{Corners, corners?}
 use Rattle.tray.specs.Decimal.{digits, value_after}
-use Rattle.tray.specs.Lines.{cell, line_of, number_at, decided, triangle_with, kept, confirmed, spelled}
+use Rattle.tray.specs.Lines.{cell, line_of, digits_at, decided, triangle_with, kept, confirmed, spelled}
 use Rattle.tray.proofs.Alike.{same_triangle}
 use Rattle.tray.proofs.Decimals.{length_digits, value_digits}
 
@@ -37,23 +37,23 @@ number_front n mark bs more small e =
     ∙ value_digits 8 n small
 
 module _ (t : Triangle) where
-  first_number : number_at 0 (line_of t) ≡ t.first
+  first_number : digits_at 0 (line_of t) ≡ t.first
   unfolding line_of
   first_number = number_front t.first 44 (line_of t) _ (omega (arith, t.below.0)) refl
 
-  second_number : number_at 9 (line_of t) ≡ t.second
+  second_number : digits_at 9 (line_of t) ≡ t.second
   second_number = number_front t.second 44 (drop 9 (line_of t)) _ (omega (arith, t.below.1)) (rest_one t)
 
-  third_number : number_at 18 (line_of t) ≡ t.third
+  third_number : digits_at 18 (line_of t) ≡ t.third
   third_number = number_front t.third 10 (drop 18 (line_of t)) [] (omega (arith, t.below.2)) (third_cell t ∙ sym (append-nil _))
 
 -- Two triangles with one line are one.
 pub same_line : (s t : Triangle) → line_of s ≡ line_of t → s ≡ t
 same_line s t e =
     same_triangle s t
-    (sym (first_number s) ∙ ap (number_at 0) e ∙ first_number t)
-    (sym (second_number s) ∙ ap (number_at 9) e ∙ second_number t)
-    (sym (third_number s) ∙ ap (number_at 18) e ∙ third_number t)
+    (sym (first_number s) ∙ ap (digits_at 0) e ∙ first_number t)
+    (sym (second_number s) ∙ ap (digits_at 9) e ∙ second_number t)
+    (sym (third_number s) ∙ ap (digits_at 18) e ∙ third_number t)
 
 decided_corners : {a b c : ℕ} (d : Dec (Corners a b c)) (t : Triangle) → t.first ≡ a → t.second ≡ b → t.third ≡ c → Corners a b c → decided d ≡ Some t
 unfolding decided

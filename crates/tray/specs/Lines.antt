@@ -27,8 +27,8 @@ LineRead bs None = (t : Triangle) → bs ≢ line_of t
 LineRead bs (Some t) = bs ≡ line_of t
 
 -- The number that eight bytes spell from one place on.
-abbrev pub number_at : ℕ → List ℕ → ℕ
-number_at i bs = value_after 0 (take 8 (drop i bs))
+abbrev pub digits_at : ℕ → List ℕ → ℕ
+digits_at i bs = value_after 0 (take 8 (drop i bs))
 
 -- What a decision on three corners gives: their triangle, if they are corners of one.
 unfoldable pub decided : {a b c : ℕ} → Dec (Corners a b c) → Option Triangle
@@ -51,7 +51,7 @@ confirmed bs (Some t) = kept t (List-discrete ℕ_discrete bs (line_of t))
 
 -- The triangle whose line these bytes are, if there is one: only the triangle of the three numbers that they spell can be it.
 unfoldable pub spelled : List ℕ → Option Triangle
-spelled bs = confirmed bs (triangle_with (number_at 0 bs) (number_at 9 bs) (number_at 18 bs))
+spelled bs = confirmed bs (triangle_with (digits_at 0 bs) (digits_at 9 bs) (digits_at 18 bs))
 
 -- The bytes with the line of a triangle at place n, from byte 27 n on, and every other byte as it was.
 abbrev pub with_line : List ℕ → ℕ → Triangle → List ℕ
