@@ -204,3 +204,20 @@ fn numbers(rt: HostRuntime) {
         assert_eq!(rt; u8::from(refusal), number);
     }
 }
+
+// What the demo does not print.
+#[test]
+fn printed_refusals(rt: HostRuntime) -> Result<(), Fail> {
+    let heap = rt.alloc();
+    let lacking = lacks([1, 2, 3]);
+    assert_eq!(rt;
+        format!(in heap; "{lacking}")?.as_str(),
+        "refused with 15, an end lacks a reading, fault 1 at (1,2,3), passed up by 0"
+    );
+    let sides = PlaceRefusal::OtherSides;
+    assert_eq!(rt;
+        format!(in heap; "{sides}")?.as_str(),
+        "refused with 9, the scan has other sides"
+    );
+    Ok(())
+}
