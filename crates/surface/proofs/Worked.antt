@@ -1,6 +1,5 @@
 -- The worked cases, computed. Assumes nothing.
 use Rattle.std.proofs.Common.{◌≡◌, [], ◌∷◌, map, refl, ap, ◌∙◌}
-use Rattle.grid.specs.declared.axis.Axis.TheVariants.{X, Y, Z}
 use Rattle.grid.specs.declared.sides.Sides.{Sides}
 use Rattle.grid.specs.declared.voxel.Voxel.{Voxel}
 use Rattle.cube.specs.Cube.{Kinds, kinds}
@@ -10,7 +9,7 @@ use Rattle.cube.specs.declared.pair.Pair.{Pair}
 use Rattle.cube.specs.declared.pair.Pair.TheVariants.{S18H6, S26H6, S6H18, S6H26}
 use Rattle.surface.specs.Places.{Solids, kinds_at}
 use Rattle.surface.specs.Laid.{numbered, laid_at, edges}
-use Rattle.surface.specs.Samples.{onward_from, Samples}
+use Rattle.surface.specs.Samples.{Samples}
 
 one : (p : Pair) → triangles p (kinds 1) ≡ triangle 0 4 8 ∷ []
 unfolding cut_all with_tube

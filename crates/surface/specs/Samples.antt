@@ -1,5 +1,5 @@
 -- Worked cases of the rules, by the link numbers of the scan. Assumes nothing.
-use Rattle.std.specs.Prelude.{◌≡◌, List, [], ◌∷◌, ℕ}
+use Rattle.std.specs.Prelude.{◌≡◌, [], ◌∷◌, ℕ}
 use Rattle.grid.specs.Links.{link_number_of}
 use Rattle.grid.specs.declared.axis.Axis.{Axis}
 use Rattle.grid.specs.declared.axis.Axis.TheVariants.{X, Y, Z}
