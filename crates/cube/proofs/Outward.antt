@@ -1,5 +1,5 @@
 -- Each triangle of a cube turns its front to hollow, under each pair. Assumes nothing.
-use Rattle.std.proofs.Common.{ℕ, Bool, T, not, List, ◌&&◌}
+use Rattle.std.proofs.Common.{ℕ, Bool, T, not, ◌&&◌}
 use Rattle.std.specs.Prelude.{pos, int_le}
 use Rattle.std.specs.List.{list_all, list_any}
 use Rattle.cube.specs.Lists.{In}

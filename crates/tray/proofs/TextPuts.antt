@@ -1,10 +1,9 @@
 -- A loop that puts the triangles of a text into a tray, line by line. Assumes nothing.
-use Rattle.std.proofs.Common.{◌≡◌, ℕ, ◌<◌, ◌≤◌, List, [], ◌∷◌, ◌++◌, length, Option, None, Some, Result, Ok, Err, sym, refl, ap, ◌∙◌, subst, append_assoc, append-nil, arith, length-append}
+use Rattle.std.proofs.Common.{◌≡◌, ℕ, ◌<◌, ◌≤◌, List, [], ◌∷◌, ◌++◌, length, Option, None, Some, Result, sym, refl, ap, ◌∙◌, subst, append_assoc, append-nil, arith, length-append}
 use Rattle.tray.specs.declared.tray.Full.{Full}
 use Rattle.tray.specs.declared.triangle.Triangle.{Triangle}
 use Rattle.tray.specs.Holding.{Held, KeepsRest, Lawful, Put}
 use Rattle.std.specs.Option.{IsSome}
-use Rattle.std.specs.Result.{IsOk}
 use Rattle.tray.specs.Lines.{LineRead, line_of}
 use Rattle.tray.specs.Texts.{text_of}
 use Rattle.tray.proofs.LineLaws.{length_line, same_line}
