@@ -1,18 +1,19 @@
--- What an export tells of making a block of readings and opening a drawing of it. Assumes nothing.
-use Rattle.std.specs.Prelude.{◌≡◌, ℕ, Bool, true, false, ◌⊎◌, List, length, Ok, Err, Result}
+-- What is told of making a block of readings and opening a drawing of it. Assumes nothing.
+use Rattle.std.specs.Prelude.{◌≡◌, ℕ, Bool, true, false, ◌⊎◌, List, length, Ok, Err, Result, ◌≢◌}
 use Rattle.grid.specs.Numbers.{place_count}
 use Rattle.scan.specs.Blocks.{ShowsValues, block_means}
 use Rattle.scan.specs.Making.{SidesFit}
 use Rattle.scan.specs.Meaning.{Meaning}
 use Rattle.scan.specs.declared.block.Block.{Block}
 use Rattle.scan.specs.declared.lengths.Lengths.{Lengths}
-use Rattle.drawing.specs.Opening.{Opened, number}
+use Rattle.drawing.specs.Opening.{Accepted, Opened, number}
 use Rattle.drawing.specs.declared.asked.Asked.{Asked}
 use Rattle.drawing.specs.declared.drawing.Drawing.{Drawing}
 use Rattle.drawing.specs.declared.letter.Letter.{Letter}
 use Rattle.drawing.specs.declared.letter.Letter.TheVariants.{H, L}
 use Rattle.drawing.specs.declared.refusal.OpenRefusal.{OpenRefusal}
-use Rattle.exported.specs.declared.Asking.{Asking}
+use Rattle.exported.specs.declared.asking.Asking.{Asking}
+use Rattle.exported.specs.declared.opening.Opened.{Opened as OpenedScan}
 
 -- The sides that are asked for.
 abbrev pub sides_of : Asking → Lengths
@@ -51,3 +52,10 @@ pub record Opens (a : Asking) (values : List ℕ) (n : ℕ) : Type 0 where
 -- What is told: no memory, no block, or how the opening went.
 abbrev pub OpenTold : Asking → List ℕ → ℕ → Type 0
 OpenTold a values n = (n ≡ 255) ⊎ (((n ≡ 1) × NoBlock a values) ⊎ Opens a values n)
+
+-- A scan that shows the readings is open; else it is told why it is not, and that is never 0.
+abbrev pub OpenMade : Asking → List ℕ → Result OpenedScan ℕ → Type 0
+OpenMade a values (Ok o) =
+    ShowsValues (block_means o.block.sides o.block.values.items) (sides_of a) values
+    × Accepted (block_means o.block.sides o.block.values.items) (asked_of a) o.drawing
+OpenMade a values (Err n) = OpenTold a values n × (n ≢ 0)
