@@ -88,14 +88,19 @@ fn show(what: &str, cubes: f64, (product, plain): (f64, f64)) {
     );
 }
 
-fn race_gyroid(plain: &Plain, side: u32) {
-    let readings = gyroid(side);
-    let asked = Asked {
+/// What is asked of the gyroid with that side.
+fn asked(side: u32) -> Asked {
+    Asked {
         sides: [side; 3],
         threshold: LEVEL,
         below: false,
         pair: (18, 6),
-    };
+    }
+}
+
+fn race_gyroid(plain: &Plain, side: u32) {
+    let readings = gyroid(side);
+    let asked = asked(side);
     let cubes = f64::from(side - 1).powi(3);
     let places = readings.len() / 2;
     let (mut a, mut b) = (vec![0; 3 * places], vec![0; 3 * places]);
@@ -137,12 +142,7 @@ fn count_allocations() {
     let mut counts = Vec::new();
     for (side, budget) in [(16, u32::MAX), (64, u32::MAX), (64, 1000), (64, 1), (128, u32::MAX), (128, 1)] {
         let readings = gyroid(side);
-        let asked = Asked {
-            sides: [side; 3],
-            threshold: LEVEL,
-            below: false,
-            pair: (18, 6),
-        };
+        let asked = asked(side);
         let mut numbers = vec![0; 3 * readings.len() / 4];
         let mut text = vec![0; 27 * readings.len() / 4];
         let start = counting::asked();
