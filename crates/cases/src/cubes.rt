@@ -1,6 +1,7 @@
 // Masks, pairs, triangles and joined voxels on examples.
 use cube::{Connectedness, CubeTriangle as T, Mask, Pair, triangles};
-use graph::joined;
+use graph::{joined, loops};
+use std::alloc::AllocError;
 use std::array;
 
 // Whether a mask lays just these triangles under a pair.
@@ -63,4 +64,22 @@ fn joined_voxels(rt: HostRuntime) {
     assert!(rt; joined(Mask(0b1000_1011), Connectedness::Six, 0, 7));
     assert!(rt; !joined(Mask(1), Connectedness::TwentySix, 1, 1));
     assert!(rt; !joined(Mask(255), Connectedness::TwentySix, 0, 8));
+}
+
+#[test]
+fn loops_of_masks(rt: HostRuntime) -> Result<(), AllocError> {
+    let expected: [(u8, Connectedness, &[&[u8]]); 4] = [
+        (0, Connectedness::Six, &[]),
+        (1, Connectedness::Eighteen, &[&[0, 4, 8]]),
+        (9, Connectedness::Eighteen, &[&[0, 5, 11, 1, 4, 8]]),
+        (9, Connectedness::Six, &[&[0, 4, 8], &[1, 5, 11]]),
+    ];
+    for (mask, s, all) in expected {
+        let found = loops(rt.alloc(), Mask(mask), s)?;
+        assert_eq!(rt; found.len(), all.len());
+        for (corners, wanted) in found.iter().zip(all) {
+            assert_eq!(rt; corners.as_slice(), *wanted);
+        }
+    }
+    Ok(())
 }
