@@ -1,4 +1,6 @@
 -- All laws of the whole surface hold together. Assumes nothing.
+use Rattle.cube.proofs.Outward.{outward}
+use Rattle.surface.specs.Places.{kinds_at, low_of}
 use Rattle.surface.specs.Whole.{AllWhole}
 use Rattle.surface.proofs.Rule.{laid_by_rule}
 use Rattle.surface.proofs.Once.{laid_once}
@@ -16,4 +18,5 @@ all_whole s p solid n h =
       ends = all_joined s p solid n h;
       corners = all_cornered s p solid n h;
       mirror = mirrored s p solid n;
+      fronts = λ c below. outward p (kinds_at solid (low_of s c));
     }
