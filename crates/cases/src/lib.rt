@@ -1,4 +1,4 @@
-// Examples of the cube, of openings and of lists of calls, run as tests; nothing here is for use.
+// Examples of what the other crates do, run as tests; nothing here is for use.
 #![tactic(auto)]
 
 #[cfg(test)]
@@ -8,4 +8,16 @@ mod cubes;
 #[cfg(test)]
 mod drawings;
 #[cfg(test)]
+mod inputs;
+#[cfg(test)]
 mod openings;
+#[cfg(test)]
+mod outputs;
+#[cfg(test)]
+mod places;
+#[cfg(test)]
+mod programs;
+#[cfg(test)]
+mod scans;
+#[cfg(test)]
+mod trays;

@@ -55,15 +55,20 @@ fn corners(heap: Global, tray: &RecordTray) -> Result<Vec<u32>, AllocError> {
 fn show_place(rt: &HostRuntime, drawing: &Drawing, block: &Block, link: u32) -> anyhow::Result<()> {
     match place(drawing, block, link) {
         Ok(corner) => {
-            let (axis, fraction) = match corner.place {
-                Place::X(fraction) => ("x", fraction),
-                Place::Y(fraction) => ("y", fraction),
-                Place::Z(fraction) => ("z", fraction),
-            };
+            let (axis, fraction) = along(corner.place);
             let Point { x, y, z } = corner.point;
             println!(rt; "  link {link}: {fraction} of the way along {axis}, at ({x},{y},{z})")?;
         }
         Err(refusal) => println!(rt; "  link {link}: {refusal}")?,
     }
     Ok(())
+}
+
+// The axis of a place, and how far along it lies.
+fn along(place: Place) -> (&'static str, f32) {
+    match place {
+        Place::X(fraction) => ("x", fraction),
+        Place::Y(fraction) => ("y", fraction),
+        Place::Z(fraction) => ("z", fraction),
+    }
 }

@@ -46,14 +46,20 @@ fn show_loops(rt: &HostRuntime, mask: Mask, s: Connectedness) -> anyhow::Result<
     print!(rt; "    loops:")?;
     let loops = graph::loops(rt.alloc(), mask, s)?;
     for corners in loops.iter() {
-        if let [lowest, rest @ ..] = corners.as_slice() {
-            print!(rt; " {lowest}")?;
-            for corner in rest {
-                print!(rt; "-{corner}")?;
-            }
-        }
+        show_loop(rt, corners.as_slice())?;
     }
     println!(rt; "")?;
+    Ok(())
+}
+
+// One loop, its links joined by dashes.
+fn show_loop(rt: &HostRuntime, corners: &[u8]) -> anyhow::Result<()> {
+    if let [lowest, rest @ ..] = corners {
+        print!(rt; " {lowest}")?;
+        for corner in rest {
+            print!(rt; "-{corner}")?;
+        }
+    }
     Ok(())
 }
 
@@ -70,13 +76,19 @@ fn show_triangles(rt: &HostRuntime, mask: Mask, pair: Pair) -> anyhow::Result<()
 // The solid voxels of a mask, those that are joined within one pair of braces.
 fn show_groups(rt: &HostRuntime, mask: Mask, c: Connectedness) -> anyhow::Result<()> {
     for first in (0..8u8).filter(|first| mask.is_solid(*first) && begins_group(mask, c, *first)) {
-        print!(rt; " {{")?;
-        for voxel in (0..8u8).filter(|voxel| graph::joined(mask, c, first, *voxel)) {
-            print!(rt; " {voxel}")?;
-        }
-        print!(rt; " }}")?;
+        show_group(rt, mask, c, first)?;
     }
     println!(rt; "")?;
+    Ok(())
+}
+
+// The voxels that are joined to this one, in braces.
+fn show_group(rt: &HostRuntime, mask: Mask, c: Connectedness, first: u8) -> anyhow::Result<()> {
+    print!(rt; " {{")?;
+    for voxel in (0..8u8).filter(|voxel| graph::joined(mask, c, first, *voxel)) {
+        print!(rt; " {voxel}")?;
+    }
+    print!(rt; " }}")?;
     Ok(())
 }
 

@@ -8,8 +8,6 @@ mod extent;
 mod link;
 mod links;
 mod sides;
-#[cfg(test)]
-mod tests;
 mod voxel;
 mod voxels;
 

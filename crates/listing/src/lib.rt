@@ -12,15 +12,9 @@ mod laws;
 mod line;
 mod number;
 mod output;
-#[cfg(test)]
-mod output_tests;
 mod pieces;
 mod rows;
 mod running;
-#[cfg(test)]
-mod running_tests;
-#[cfg(test)]
-mod tests;
 mod unread;
 
 pub use closing_lines::{end_line, refusal_line};

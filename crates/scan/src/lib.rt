@@ -14,8 +14,6 @@ mod refusal;
 mod scan;
 mod shape;
 mod spacing;
-#[cfg(test)]
-mod tests;
 
 pub use block::Block;
 pub use border::{Lacking, lowest_lacking};

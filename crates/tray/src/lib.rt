@@ -5,8 +5,6 @@ mod digits;
 mod line;
 mod pouring;
 mod record_tray;
-#[cfg(test)]
-mod tests;
 pub mod text;
 mod text_tray;
 mod tray;

@@ -1,15 +1,9 @@
-// Examples, as tables.
-use crate::line::{read_line, write_line_at};
-use crate::pouring::pour;
-use crate::record_tray::RecordTray;
-use crate::text;
-use crate::text::TextRefusal;
-use crate::text_tray::TextTray;
-use crate::tray::Tray;
-use crate::triangle::Triangle;
+// Triangles, their lines and the trays that hold them.
 use std::alloc::Global;
 use std::process::Abort;
 use std::test::Fail;
+use tray::text::{self, TextRefusal};
+use tray::{RecordTray, TextTray, Tray, Triangle, pour, read_line, write_line_at};
 
 #[test]
 fn refused_triangles(rt: HostRuntime) -> Result<(), Fail> {

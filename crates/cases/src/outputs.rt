@@ -1,7 +1,6 @@
-// Examples of whole outputs, as tables.
-use crate::last_line::is_refused;
-use crate::output::listing;
-use crate::tests::{SAMPLE, longest};
+// Whole outputs, as tables.
+use crate::inputs::{SAMPLE, longest};
+use listing::{is_refused, listing};
 use std::alloc::Global;
 use std::process::Abort;
 use std::test::Fail;

@@ -1,6 +1,6 @@
-// Examples of inputs that are read and of outputs that are written behind what stands there.
-use crate::running::{Outcome, run};
-use crate::tests::{SAMPLE, longest};
+// Inputs that are read, and outputs that are written behind what stands there.
+use crate::inputs::{SAMPLE, longest};
+use listing::{Outcome, run};
 use std::process::Abort;
 use std::test::Fail;
 

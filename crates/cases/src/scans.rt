@@ -1,6 +1,8 @@
 // Small scans of each kind, asked inside, on the rim and outside.
-use crate::*;
 use grid::{Axis, Voxel};
+use scan::{
+    Block, Cause, Cutout, Fault, MeasuredScan, Phantom, Refusal, Scan, Shape, lowest_lacking,
+};
 use std::alloc::{AllocError, Global};
 use std::test::Fail;
 

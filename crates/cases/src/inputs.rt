@@ -1,9 +1,6 @@
-// Examples, as tables.
-use crate::closing_lines::{end_line, refusal_line};
-use crate::header::Header;
-use crate::input::read;
-use crate::unread::Unread;
+// Inputs that are read and refused, and closing lines.
 use drawing::{Asked, Letter, SolidTest};
+use listing::{Header, Unread, end_line, read, refusal_line};
 use std::alloc::Global;
 use std::process::Abort;
 use std::test::Fail;

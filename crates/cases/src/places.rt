@@ -1,5 +1,5 @@
 // Sides, numbers and places on small examples.
-use crate::*;
+use grid::{Axis, Link, Sides, Voxel};
 use std::test::Fail;
 
 // Sides that are within their range.
