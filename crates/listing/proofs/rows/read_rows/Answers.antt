@@ -38,5 +38,5 @@ returns-then-not-is_empty c =
 pub returns : goal.returns
 returns c =
     let rows = c.args.header.ny * c.args.header.nz in
-    let all = rows_end rows c.loop-row.row c.args.header.nx (unread c.loop-row.lines) (omega arith) (grind (arith, nat_tests, ap length c.rest.ensures)) in
+    let all = rows_end rows c.loop-row.row c.args.header.nx (unread c.loop-row.lines) (omega arith) (search (arith, nat_tests, ap length c.rest.ensures)) in
     behind_end c.loop-row.readings.items _ _ all c.loop-row.invariant.rest
