@@ -35,9 +35,11 @@ fn draw_records(heap: Global, opened: Opened, budget: u32, numbers: &mut [u32]) 
         return nothing(DrawRefusal::ZeroBudget.into());
     }
     let Opened { block, mut drawing } = opened;
-    match RecordTray::new(heap, numbers.len() / CORNERS) {
+    let blank = Triangle::new(0, 1, 2).unwrap();
+    match vec![in heap; blank; numbers.len() / CORNERS] {
         Err(_) => nothing(NO_MEMORY),
-        Ok(mut tray) => {
+        Ok(list) => {
+            let mut tray = RecordTray::new(list);
             let told = draw_on(&block, &mut drawing, &mut tray, budget);
             hand_over(tray.triangles(), numbers);
             told
