@@ -1,5 +1,5 @@
 -- Readings that make a block, and what stands against opening it whatever they are. Assumes nothing.
-use Rattle.std.proofs.Common.{◌≡◌, ◌≢◌, ℕ, ◌+◌, ◌<◌, ◌≤◌, ◌-◌, ◌*◌, inl, inr, List, length, Err, Ok, slice_index, refl, sym, ap, ◌∙◌, subst, arith}
+use Rattle.std.proofs.Common.{◌≡◌, ◌≢◌, ℕ, ◌<◌, ◌≤◌, ◌-◌, ◌*◌, inl, inr, List, length, Err, slice_index, sym, ap, ◌∙◌, subst, arith}
 use Rattle.std.specs.Prelude.{nat_lt}
 use Rattle.std.proofs.Math.Nat.{le-mul_of_pos_right}
 use Rattle.std.proofs.lemmas.Bool.{lt-ltb}
@@ -7,7 +7,6 @@ use Rattle.grid.specs.Numbers.{Side, place_count}
 use Rattle.grid.specs.Cubes.{cube_count}
 use Rattle.grid.specs.Voxels.{count_of, number_of}
 use Rattle.grid.specs.declared.sides.Sides.{Sides}
-use Rattle.cube.specs.declared.pair.Pair.{Pair}
 use Rattle.scan.specs.Blocks.{ShowsValues, block_means, listed, or_lacking}
 use Rattle.scan.specs.Laws.Places.{scan_inside, scan_outside}
 use Rattle.scan.specs.Making.{SidesAre}

@@ -40,7 +40,8 @@ fn draw_records(
         return Err(DrawRefusal::ZeroBudget.into());
     }
     let Opened { block, mut drawing } = open(heap, asking, readings)?;
-    let mut tray = RecordTray::new(heap, numbers.len() / CORNERS)?;
+    let blank = Triangle::new(0, 1, 2).unwrap();
+    let mut tray = RecordTray::new(vec![in heap; blank; numbers.len() / CORNERS]?);
     let told = draw_on(&block, &mut drawing, &mut tray, asking.budget);
     hand_over(tray.triangles(), numbers);
     Ok(told)

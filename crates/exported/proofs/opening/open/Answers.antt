@@ -1,8 +1,8 @@
-use Rattle.std.proofs.Common.{Err, rules, subst}
+use Rattle.std.proofs.Common.{rules, subst}
 use Rattle.std.proofs.lemmas.Result.{err_from_is_err_and}
-use Rattle.scan.specs.Blocks.{ShowsValues, block_means}
+use Rattle.scan.specs.Blocks.{block_means}
 use Rattle.drawing.specs.Opening.{Refused}
-use Rattle.exported.specs.Askings.{OpenRefused, sides_of}
+use Rattle.exported.specs.Askings.{OpenRefused}
 use Rattle.exported.proofs.opening.open.Goals as goal
 
 pub returns-in_err-drawing : goal.returns-in_err-drawing

@@ -1,4 +1,4 @@
-use Rattle.std.proofs.Common.{◌≡◌, ◌/◌, length, rules, subst, ap, ◌∙◌}
+use Rattle.std.proofs.Common.{◌≡◌, ◌/◌, length, rules, subst}
 use Rattle.scan.specs.Blocks.{block_means}
 use Rattle.tray.specs.Records.{record_holds}
 use Rattle.exported.specs.Drawings.{Drew}
@@ -13,7 +13,7 @@ returns c =
     let o = c.in_ok-block.field-0 in
     let m = block_means o.block.sides o.block.values.items in
     let ts = (record_holds c.draw_on-told.new.tray).list in
-    let places : (record_holds c.in_ok-tray.tray).free ≡ length c.args.numbers.now / 3 = search rules in
+    let places : (record_holds c.new-tray.result).free ≡ length c.args.numbers.now / 3 = search rules in
     record {
       budgeted = search rules;
       scan = m;

@@ -1,4 +1,4 @@
-use Rattle.std.proofs.Common.{◌≡◌, ◌/◌, length, rules, subst, ap, ◌∙◌}
+use Rattle.std.proofs.Common.{◌≡◌, ◌/◌, length, rules, subst}
 use Rattle.scan.specs.Blocks.{block_means}
 use Rattle.tray.specs.Buffers.{text_holds}
 use Rattle.exported.specs.Drawings.{Drew}
