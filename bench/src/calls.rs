@@ -98,14 +98,13 @@ fn refused(refusal: u32) -> Told {
 }
 
 impl Plain {
+    // A budget of 0 is refused before the readings are looked at.
     fn draw<T: Tray>(&self, asked: Asked, budget: u32, block: &Block, tray: &mut T) -> Told {
         let mut drawing = match Drawing::open(&self.0, block, asked) {
+            Ok(_) | Err(7 | 8) if budget == 0 => return refused(10),
             Ok(drawing) => drawing,
             Err(refusal) => return refused(refusal),
         };
-        if budget == 0 {
-            return refused(10);
-        }
         let free = tray.free();
         for draws in 1.. {
             let refusal = match drawing.draw(block, tray, budget as usize) {

@@ -1,5 +1,6 @@
 // Lists of calls on small blocks.
 use crate::block::block;
+use crate::trays::with_places;
 use drawing::{
     Asked, DrawRefusal, Ending, Letter, OpenRefusal, Progress, Report, SolidTest, Unfinished,
 };
@@ -83,9 +84,9 @@ fn two_triangles_want_two_places(rt: HostRuntime) -> Result<(), Fail> {
     let heap = rt.alloc();
     let block = block(heap, [4, 3, 3], &two_voxels())?;
     let mut trays = [
-        RecordTray::new(heap, 20)?,
-        RecordTray::new(heap, 1)?,
-        RecordTray::new(heap, 2)?,
+        with_places(heap, 20)?,
+        with_places(heap, 1)?,
+        with_places(heap, 2)?,
     ];
     let mut entries = [open(5), draw(0, 10), draw(1, 1), draw(2, 1), draw(2, 0)];
     run(&block, &mut trays, &mut entries);
@@ -106,7 +107,7 @@ fn earlier_cubes_stand_at_a_fault(rt: HostRuntime) -> Result<(), Fail> {
     let mut values = two_voxels();
     values[18] = 65_535;
     let block = block(heap, [4, 3, 3], &values)?;
-    let mut trays = [RecordTray::new(heap, 20)?];
+    let mut trays = [with_places(heap, 20)?];
     let mut entries = [open(5), draw(0, 100), entry(Call::Close)];
     run(&block, &mut trays, &mut entries);
     let fault = Fault::own(Cause::NoReading, Voxel { x: 2, y: 1, z: 1 });
@@ -125,7 +126,7 @@ fn closed_drawing_only_reports(rt: HostRuntime) -> Result<(), Fail> {
     let mut values = [0u16; 27];
     values[13] = 9;
     let block = block(heap, [3, 3, 3], &values)?;
-    let mut trays = [RecordTray::new(heap, 8)?];
+    let mut trays = [with_places(heap, 8)?];
     let empty = entry(Call::Empty { tray: 0 });
     let mut entries = [
         open(5),

@@ -5,6 +5,12 @@ use std::test::Fail;
 use tray::text::{self, TextRefusal};
 use tray::{RecordTray, TextTray, Tray, Triangle, pour, read_line, write_line_at};
 
+// An empty record tray with this number of places, over a list of one triangle again and again.
+pub(crate) fn with_places(heap: Global, places: usize) -> Result<RecordTray, Fail> {
+    let blank = Triangle::new(0, 1, 2)?;
+    Ok(RecordTray::new(vec![in heap; blank; places]?))
+}
+
 #[test]
 fn refused_triangles(rt: HostRuntime) -> Result<(), Fail> {
     let refused = [
@@ -81,7 +87,7 @@ fn each_byte_damaged(rt: HostRuntime) -> Result<(), Fail> {
 
 #[test]
 fn poured_until_full(rt: HostRuntime) -> Result<(), Fail> {
-    let mut records = RecordTray::new(rt.alloc(), 2)?;
+    let mut records = with_places(rt.alloc(), 2)?;
     let from = *b"00000036,00000014,00000031\n00000039,00000031,00000014\n";
     assert_eq!(rt; text::read(&from, &mut records), Ok(2));
     let mut lines = TextTray::new(vec![in rt.alloc(); b'.'; 53]?);

@@ -1,4 +1,5 @@
 // Where the corners of a small shell lie.
+use crate::trays::with_places;
 use corner::{Place, Point, place};
 use drawing::{Asked, Drawing, Letter, SolidTest};
 use scan::Block;
@@ -11,7 +12,7 @@ pub(crate) fn show(rt: &HostRuntime) -> anyhow::Result<()> {
     let block = shell(rt.alloc())?;
     let mut drawing = Drawing::open(&block, asked())?;
     let pair = drawing.pair();
-    let mut tray = RecordTray::new(rt.alloc(), 8)?;
+    let mut tray = with_places(rt.alloc(), 8)?;
     let progress = drawing.draw(&block, &mut tray, 8)?;
     println!(rt; "  drawn under {pair}: {progress}")?;
     for link in corners(rt.alloc(), &tray)?.iter() {

@@ -1,5 +1,6 @@
 // The housing drawn by lists of calls: with refusals on the way, under each pair, and exchanged.
 use crate::housing;
+use crate::trays::with_places;
 use anyhow::anyhow;
 use cube::Pair;
 use drawing::{Asked, Letter};
@@ -117,7 +118,7 @@ fn unanswered(heap: Global, calls: &[Call]) -> Result<Vec<Entry>, AllocError> {
 // Draws the housing into two trays by a list of calls, and answers the number of triangles in all.
 fn draw_by(rt: &HostRuntime, phantom: &Phantom, calls: &[Call]) -> anyhow::Result<u32> {
     let heap = rt.alloc();
-    let mut trays = [RecordTray::new(heap, FEW)?, RecordTray::new(heap, MANY)?];
+    let mut trays = [with_places(heap, FEW)?, with_places(heap, MANY)?];
     let state = make(rt, phantom, &mut trays, calls)?;
     let (few, many) = (trays[0].held(), trays[1].held());
     println!(rt; "  triangles held in the end: {few} in tray 0, {many} in tray 1")?;

@@ -1,5 +1,6 @@
 // A drawing made at one go: opened, drawn, closed, and asked for its report.
 use crate::housing;
+use crate::trays::with_places;
 use anyhow::Context;
 use cube::Pair;
 use drawing::{Drawing, Letter, Report};
@@ -9,7 +10,7 @@ use tray::RecordTray;
 // Draws the housing once more, by the calls themselves.
 pub(crate) fn show(rt: &HostRuntime) -> anyhow::Result<()> {
     let phantom = housing::phantom(rt.alloc(), 7)?;
-    let mut tray = RecordTray::new(rt.alloc(), 400)?;
+    let mut tray = with_places(rt.alloc(), 400)?;
     let pair = Pair::S18H6;
     let report = drawn_whole(&phantom, &mut tray, pair).context("the housing is not drawn")?;
     println!(rt; "Drawn at one go under {pair}: {report}")?;

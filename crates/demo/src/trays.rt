@@ -1,11 +1,18 @@
 // Triangles put into a record tray and poured into a text tray.
+use std::alloc::Global;
 use std::io::Write;
 use tray::{RecordTray, TextTray, Tray, Triangle, pour};
+
+// An empty record tray with this number of places, over a list of one triangle again and again.
+pub(crate) fn with_places(heap: Global, places: usize) -> anyhow::Result<RecordTray> {
+    let blank = Triangle::new(0, 1, 2)?;
+    Ok(RecordTray::new(vec![in heap; blank; places]?))
+}
 
 // Fills a small record tray, and pours it into bytes with room for two lines and some bytes more.
 pub(crate) fn show(rt: &HostRuntime) -> anyhow::Result<()> {
     println!(rt; "A record tray of three places")?;
-    let mut records = RecordTray::new(rt.alloc(), 3)?;
+    let mut records = with_places(rt.alloc(), 3)?;
     put(rt, &mut records, 36, 14, 31)?;
     put(rt, &mut records, 39, 31, 14)?;
     put(rt, &mut records, 36, 36, 14)?;

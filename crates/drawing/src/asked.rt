@@ -1,8 +1,12 @@
 // What is asked of an opening.
 ghost use Rattle.std.specs.Prelude.{Some};
+ghost use Rattle.drawing.specs.Opening.{GivesPair};
 ghost use Rattle.drawing.specs.Texts.{asked_text};
 
 use crate::letter::SolidTest;
+use crate::refusal::OpenRefusal;
+use cube::Pair;
+use grid::Sides;
 use std::fmt;
 
 // The test of what is solid, and the two numbers of a pair, that of solid first; they may be those of no pair.
@@ -11,6 +15,23 @@ pub struct Asked {
     pub test: SolidTest,
     pub s: u16,
     pub h: u16,
+}
+
+impl Asked {
+    // The pair that is asked for, of a scan with these sides, whatever it reads; refused, the first that applies, over a side
+    // of 1, the threshold and the pair.
+    pub fn pair(self, sides: Sides) -> Result<Pair, OpenRefusal>
+        ensures { GivesPair sides self result }
+    {
+        // By axis: the sides are three named lengths.
+        if sides.x() == 1 || sides.y() == 1 || sides.z() == 1 {
+            return Err(OpenRefusal::ThinSide);
+        }
+        if self.test.threshold == 0 {
+            return Err(OpenRefusal::ZeroThreshold);
+        }
+        Ok(Pair::try_from((self.s, self.h))?)
+    }
 }
 
 impl fmt::Display for Asked {

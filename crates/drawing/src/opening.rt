@@ -6,7 +6,6 @@ use crate::asked::Asked;
 use crate::border::{kind_at, lowest_unlike};
 use crate::drawing::Drawing;
 use crate::refusal::OpenRefusal;
-use cube::Pair;
 use grid::Voxel;
 use scan::{Scan, lowest_lacking};
 
@@ -17,16 +16,9 @@ impl Drawing {
     pub fn open<S: Scan>(scan: &S, asked: Asked) -> Result<Drawing, OpenRefusal>
         ensures { Opened (S.Scan.means scan.now) asked result }
     {
-        let Asked { test, s, h } = asked;
+        let Asked { test, .. } = asked;
         let sides = scan.sides();
-        // By axis: the sides are three named lengths.
-        if sides.x() == 1 || sides.y() == 1 || sides.z() == 1 {
-            return Err(OpenRefusal::ThinSide);
-        }
-        if test.threshold == 0 {
-            return Err(OpenRefusal::ZeroThreshold);
-        }
-        let pair = Pair::try_from((s, h))?;
+        let pair = asked.pair(sides)?;
         if let Some(lacking) = lowest_lacking(scan) {
             return Err(lacking.into());
         }

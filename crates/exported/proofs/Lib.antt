@@ -1,2 +1,2 @@
+pub mod Askings
 pub mod Sofar
-pub mod Numbers

@@ -1,5 +1,5 @@
 -- What is told of drawing a scan by draws of one budget, and what is handed over. Assumes nothing.
-use Rattle.std.specs.Prelude.{◌≡◌, ℕ, ◌+◌, ◌-◌, ◌*◌, ◌/◌, ◌<◌, ◌≤◌, ◌⊎◌, List, [], ◌∷◌, ◌++◌, map, length, drop, Some, None, Option, ◌≢◌}
+use Rattle.std.specs.Prelude.{◌≡◌, ℕ, ◌+◌, ◌-◌, ◌*◌, ◌/◌, ◌<◌, ◌≤◌, ◌⊎◌, List, [], ◌∷◌, ◌++◌, map, length, drop, Some, None, Option, Ok, Err, Result, ◌≢◌}
 use Rattle.std.specs.List.{flat_map}
 use Rattle.grid.specs.Cubes.{cube_count}
 use Rattle.scan.specs.Blocks.{ShowsValues}
@@ -13,9 +13,13 @@ use Rattle.drawing.specs.Opening.{Accepted}
 use Rattle.drawing.specs.declared.drawing.Drawing.{Drawing}
 use Rattle.drawing.specs.declared.progress.Ending.{Ending}
 use Rattle.drawing.specs.declared.progress.Ending.TheVariants.{Done, Budget, Lacking, Full}
-use Rattle.exported.specs.Opens.{OpenTold, asked_of, sides_of}
+use Rattle.exported.specs.Askings.{Refused, WellAsked, asked_of, sides_of}
+use Rattle.exported.specs.Refusals.{number}
 use Rattle.exported.specs.declared.asking.Asking.{Asking}
+use Rattle.exported.specs.declared.refusal.Refusal.{Refusal}
+use Rattle.exported.specs.declared.refusal.Refusal.TheVariants.{Scan, Open, Draw, Memory}
 use Rattle.exported.specs.declared.told.Told.{Told}
+use Rattle.drawing.specs.declared.progress.DrawRefusal.TheVariants.{ZeroBudget}
 
 -- Nothing was drawn, for the reason with this number.
 abbrev pub nothing_told : ℕ → Told
@@ -73,44 +77,41 @@ pub record Starts (m : Meaning) (d : Drawing) : Type 0 where
   pub cubes : d.cubes ≡ 0
   pub some : 0 < cube_count d.sides
 
--- Nothing is drawn or written: the budget is 0, which 10 tells, or there is no memory for a tray.
-pub record Kept (budget : ℕ) (before : List ℕ) (told : Told) (after : List ℕ) : Type 0 where
-  pub number : ((told.refusal ≡ 10) × (budget ≡ 0)) ⊎ (told.refusal ≡ 255)
-  pub nothing : told ≡ nothing_told told.refusal
-  pub same : after ≡ before
-
--- It is drawn, in as many places as what was lent has for triangles of this width; they are written over its front, and what lies
--- past them is as it was.
-pub record Written (width : ℕ) (write : List Triangle → List ℕ) (m : Meaning) (d : Drawing) (budget : ℕ) (before : List ℕ) (told : Told) (after : List ℕ) : Type 0 where
-  pub budgeted : budget ≢ 0
-  pub triangles : List Triangle
-  pub drew : Drew m d budget (length before / width) told triangles
-  pub handed : after ≡ write triangles ++ drop (width * length triangles) before
-
-abbrev pub Handed : (width : ℕ) → (List Triangle → List ℕ) → Meaning → Drawing → (budget : ℕ) → List ℕ → Told → List ℕ → Type 0
-Handed width write m d budget before told after = Kept budget before told after ⊎ Written width write m d budget before told after
-
--- The readings are not opened: it is told why, nothing is drawn, and nothing is written.
-pub record Unopened (a : Asking) (values before : List ℕ) (told : Told) (after : List ℕ) : Type 0 where
-  pub number : OpenTold a values told.refusal
-  pub refused : told.refusal ≢ 0
-  pub nothing : told ≡ nothing_told told.refusal
-  pub same : after ≡ before
-
--- A scan that shows the readings is opened as it was asked, and drawn.
-pub record OpenedTo (width : ℕ) (write : List Triangle → List ℕ) (a : Asking) (values before : List ℕ) (told : Told) (after : List ℕ) : Type 0 where
+-- A scan that shows the readings is opened as it is asked, and drawn, in as many places as what was lent has for triangles of this
+-- width; they are written over its front, and what lies past them is as it was.
+pub record Written (width : ℕ) (write : List Triangle → List ℕ) (a : Asking) (values before : List ℕ) (told : Told) (after : List ℕ) : Type 0 where
+  pub budgeted : a.budget ≢ 0
   pub scan : Meaning
   pub shows : ShowsValues scan (sides_of a) values
   pub drawing : Drawing
   pub opened : Accepted scan (asked_of a) drawing
-  pub handed : Handed width write scan drawing a.budget before told after
+  pub triangles : List Triangle
+  pub drew : Drew scan drawing a.budget (length before / width) told triangles
+  pub handed : after ≡ write triangles ++ drop (width * length triangles) before
+
+-- Refused: as an opening is, or over a budget of 0, which is looked at before the readings are; no memory is told only over another.
+abbrev pub DrawRefused : Asking → List ℕ → Refusal → Type 0
+DrawRefused a values (Scan e) = Refused a values (Scan e)
+DrawRefused a values (Open e) = Refused a values (Open e) × (WellAsked a values → a.budget ≢ 0)
+DrawRefused a values (Draw e) = (e ≡ ZeroBudget) × WellAsked a values × (a.budget ≡ 0)
+DrawRefused a values Memory = WellAsked a values × (a.budget ≢ 0)
+
+-- What is drawn is written; a refusal writes nothing.
+abbrev pub Draws : (width : ℕ) → (List Triangle → List ℕ) → Asking → List ℕ → List ℕ → Result Told Refusal → List ℕ → Type 0
+Draws width write a values before (Ok told) after = Written width write a values before told after
+Draws width write a values before (Err e) after = DrawRefused a values e × (after ≡ before)
+
+-- A refusal is told by its number, with nothing drawn.
+pub record NotDrawn (a : Asking) (values before : List ℕ) (told : Told) (after : List ℕ) : Type 0 where
+  pub refusal : Refusal
+  pub refused : DrawRefused a values refusal
+  pub nothing : told ≡ nothing_told (number refusal)
+  pub same : after ≡ before
 
 -- A call that draws into numbers, three for each triangle,
 abbrev pub NumbersTold : Asking → List ℕ → List ℕ → Told → List ℕ → Type 0
-NumbersTold a values before told after =
-    Unopened a values before told after ⊎ OpenedTo 3 numbers_of a values before told after
+NumbersTold a values before told after = Written 3 numbers_of a values before told after ⊎ NotDrawn a values before told after
 
 -- and one that draws into text, 27 bytes for each.
 abbrev pub TextTold : Asking → List ℕ → List ℕ → Told → List ℕ → Type 0
-TextTold a values before told after =
-    Unopened a values before told after ⊎ OpenedTo 27 text_of a values before told after
+TextTold a values before told after = Written 27 text_of a values before told after ⊎ NotDrawn a values before told after

@@ -1,2 +1,3 @@
+pub mod Askings
 pub mod Drawings
-pub mod Opens
+pub mod Refusals

@@ -1,8 +1,11 @@
 // What a caller asks.
-ghost use Rattle.std.specs.Prelude.{◌≡◌};
-ghost use Rattle.exported.specs.Opens.{asked_of};
+ghost use Rattle.std.specs.Prelude.{◌≡◌, MatchResult};
+ghost use Rattle.exported.specs.Askings.{Refused, WellAsked, asked_of, sides_of};
 
+use crate::refusal::Refusal;
 use drawing::{Asked, Letter, SolidTest};
+use grid::Sides;
+use scan::Lengths;
 
 // The sides, the budget of each draw, the threshold, the two numbers of a pair, and whether the letter is L.
 #[repr(C)]
@@ -18,17 +21,43 @@ pub struct Asking {
     pub below: bool,
 }
 
-// What is asked of the opening.
-pub(crate) fn asked(asking: &Asking) -> Asked
-    ensures { result ≡ asked_of asking.now }
-{
-    let letter = if asking.below { Letter::L } else { Letter::H };
-    Asked {
-        test: SolidTest {
-            threshold: asking.threshold,
-            letter,
-        },
-        s: asking.s,
-        h: asking.h,
+impl Asking {
+    // The sides that are asked for.
+    pub(crate) fn sides(&self) -> Lengths
+        ensures { result ≡ sides_of self.now }
+    {
+        Lengths {
+            x: self.x,
+            y: self.y,
+            z: self.z,
+        }
+    }
+
+    // What is asked of the opening.
+    pub(crate) fn opening(&self) -> Asked
+        ensures { result ≡ asked_of self.now }
+    {
+        let letter = if self.below { Letter::L } else { Letter::H };
+        Asked {
+            test: SolidTest {
+                threshold: self.threshold,
+                letter,
+            },
+            s: self.s,
+            h: self.h,
+        }
+    }
+
+    // Looks at all that can be told of an opening with no memory for the readings; refused, the first that applies, where they
+    // make no block, over a side of 1, the threshold and the pair.
+    pub(crate) fn check(&self, readings: &[u16]) -> Result<(), Refusal>
+        ensures { MatchResult result (λ _. WellAsked self.now readings.now) (λ e. Refused self.now readings.now e × (WellAsked self.now readings.now → ⊥)) }
+    {
+        let sides = Sides::try_from(self.sides())?;
+        if readings.len() != sides.voxel_count() as usize {
+            return Err(scan::Refusal::Size.into());
+        }
+        self.opening().pair(sides)?;
+        Ok(())
     }
 }

@@ -2,9 +2,11 @@
 #![tactic(auto)]
 
 mod asking;
-mod block;
 mod drawing_on;
 mod opening;
 mod records;
+mod refusal;
+#[cfg(test)]
+mod tests;
 mod text;
 mod told;

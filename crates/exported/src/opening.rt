@@ -1,8 +1,9 @@
 // Opening a drawing of the readings.
-ghost use Rattle.exported.specs.Opens.{OpenMade, OpenTold};
+ghost use Rattle.std.specs.Prelude.{◌≡◌};
+ghost use Rattle.exported.specs.Askings.{OpenMade, OpenTold, WellAsked};
 
-use crate::asking::{Asking, asked};
-use crate::block::block;
+use crate::asking::Asking;
+use crate::refusal::Refusal;
 use drawing::Drawing;
 use scan::Block;
 use std::alloc::Global;
@@ -14,26 +15,32 @@ pub(crate) struct Opened {
     pub(crate) drawing: Drawing,
 }
 
-// The block of the readings, opened; else the number of the refusal, or 255 where there is no memory.
-pub(crate) fn open(heap: Global, asking: &Asking, readings: &[u16]) -> Result<Opened, u8>
+// A block of a copy of the readings, 1 micrometre apart, opened; refused over memory, and then as the opening is.
+pub(crate) fn open(heap: Global, asking: &Asking, readings: &[u16]) -> Result<Opened, Refusal>
+    requires { WellAsked asking.now readings.now }
     ensures { OpenMade asking.now readings.now result }
 {
-    match block(heap, asking, readings) {
-        Err(number) => Err(number),
-        Ok(block) => match Drawing::open(&block, asked(asking)) {
-            Ok(drawing) => Ok(Opened { block, drawing }),
-            Err(refusal) => Err(refusal.into()),
-        },
-    }
+    let values = Vec::from_slice(heap, readings)?;
+    let block = Block::new(asking.sides(), [1; 3].into(), values)?;
+    let drawing = Drawing::open(&block, asking.opening())?;
+    Ok(Opened { block, drawing })
 }
 
-// Opens a drawing of the readings: 0, or the number of the refusal, or 255 where there is no memory.
+// Looks at what is asked, and opens a drawing of the readings.
+fn open_asked(heap: Global, asking: &Asking, readings: &[u16]) -> Result<Opened, Refusal>
+    ensures { OpenMade asking.now readings.now result }
+{
+    asking.check(readings)?;
+    open(heap, asking, readings)
+}
+
+// Opens a drawing of the readings: 0, or the number of the refusal, or 255 where there is no memory for them.
 #[unsafe(no_mangle)]
 pub extern "C" fn exported_open(heap: Global, asking: &Asking, readings: &[u16]) -> u8
     ensures { OpenTold asking.now readings.now result }
 {
-    match open(heap, asking, readings) {
+    match open_asked(heap, asking, readings) {
         Ok(_) => 0,
-        Err(number) => number,
+        Err(refusal) => refusal.into(),
     }
 }

@@ -1,12 +1,12 @@
 // Drawing into numbers: the three corners of each triangle.
 ghost use Rattle.std.specs.Prelude.{◌≡◌, ◌*◌, ◌++◌, ◌≤◌, length, drop};
-ghost use Rattle.exported.specs.Drawings.{Handed, NumbersTold, Starts, numbers_of};
-ghost use Rattle.scan.specs.Blocks.{block_means};
+ghost use Rattle.exported.specs.Drawings.{Draws, NumbersTold, numbers_of};
 
 use crate::asking::Asking;
 use crate::drawing_on::draw_on;
 use crate::opening::{Opened, open};
-use crate::told::{NO_MEMORY, Told, nothing};
+use crate::refusal::Refusal;
+use crate::told::Told;
 use drawing::DrawRefusal;
 use std::alloc::Global;
 use tray::{RecordTray, Triangle};
@@ -26,23 +26,25 @@ fn hand_over(triangles: &[Triangle], numbers: &mut [u32])
     }
 }
 
-// Draws what is open into a tray with as many places as the numbers have, and hands the triangles over.
-fn draw_records(heap: Global, opened: Opened, budget: u32, numbers: &mut [u32]) -> Told
-    requires { Starts (block_means opened.block.sides opened.block.values.items) opened.drawing }
-    ensures { Handed 3 numbers_of (block_means opened.block.sides opened.block.values.items) opened.drawing budget numbers.old result numbers.new }
+// Draws the readings into a tray with as many places as the numbers have, and hands the triangles over.
+fn draw_records(
+    heap: Global,
+    asking: &Asking,
+    readings: &[u16],
+    numbers: &mut [u32],
+) -> Result<Told, Refusal>
+    ensures { Draws 3 numbers_of asking.now readings.now numbers.old result numbers.new }
 {
-    if budget == 0 {
-        return nothing(DrawRefusal::ZeroBudget.into());
+    asking.check(readings)?;
+    if asking.budget == 0 {
+        return Err(DrawRefusal::ZeroBudget.into());
     }
-    let Opened { block, mut drawing } = opened;
-    match RecordTray::new(heap, numbers.len() / CORNERS) {
-        Err(_) => nothing(NO_MEMORY),
-        Ok(mut tray) => {
-            let told = draw_on(&block, &mut drawing, &mut tray, budget);
-            hand_over(tray.triangles(), numbers);
-            told
-        }
-    }
+    let Opened { block, mut drawing } = open(heap, asking, readings)?;
+    let blank = Triangle::new(0, 1, 2).unwrap();
+    let mut tray = RecordTray::new(vec![in heap; blank; numbers.len() / CORNERS]?);
+    let told = draw_on(&block, &mut drawing, &mut tray, asking.budget);
+    hand_over(tray.triangles(), numbers);
+    Ok(told)
 }
 
 // Draws the readings by draws of the budget, and writes the corners of the triangles over the front of the numbers.
@@ -55,8 +57,8 @@ pub extern "C" fn exported_records(
 ) -> Told
     ensures { NumbersTold asking.now readings.now numbers.old result numbers.new }
 {
-    match open(heap, asking, readings) {
-        Err(number) => nothing(number),
-        Ok(opened) => draw_records(heap, opened, asking.budget, numbers),
+    match draw_records(heap, asking, readings, numbers) {
+        Ok(told) => told,
+        Err(refusal) => refusal.into(),
     }
 }

@@ -1,9 +1,9 @@
 // What is told of drawing a scan.
 ghost use Rattle.std.specs.Prelude.{◌≡◌};
 ghost use Rattle.exported.specs.Drawings.{nothing_told};
+ghost use Rattle.exported.specs.Refusals.{number};
 
-// The answer where there is no memory.
-pub(crate) const NO_MEMORY: u8 = 255;
+use crate::refusal::Refusal;
 
 // The number of the refusal or ending, or 0; the cubes drawn, by how many draws, and the triangles laid.
 #[repr(C)]
@@ -16,13 +16,15 @@ pub struct Told {
 }
 
 // Nothing was drawn, for this reason.
-pub(crate) fn nothing(number: u8) -> Told
-    ensures { result ≡ nothing_told number }
-{
-    Told {
-        refusal: number.into(),
-        cubes: 0,
-        draws: 0,
-        triangles: 0,
+impl From<Refusal> for Told {
+    ghost from_gives = { λ refusal told. told ≡ nothing_told (number refusal) };
+
+    fn from(refusal: Refusal) -> Told {
+        Told {
+            refusal: u8::from(refusal).into(),
+            cubes: 0,
+            draws: 0,
+            triangles: 0,
+        }
     }
 }

@@ -3,6 +3,7 @@ pub mod Corners
 pub mod Decimal
 pub mod Holding
 pub mod Lines
+pub mod Pasts
 pub mod Reading
 pub mod Records
 pub mod Refusals

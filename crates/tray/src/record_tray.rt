@@ -1,16 +1,15 @@
-// A tray that keeps its triangles as records.
-ghost use Rattle.std.specs.Prelude.{◌≤◌, vec_len, vec_capacity};
+// A tray over a list of records: what it holds stands in front.
+ghost use Rattle.std.specs.Prelude.{◌≤◌, vec_len};
 
 use crate::triangle::Triangle;
 
 pub mod calls;
 
-// A tray with a number of places that is fixed, and their memory reserved, when it is made.
+// A tray with one place for each record of the list that it is given; triangle n stands in record n.
 #[derive(Drop)]
 pub struct RecordTray {
+    // Whole, as it was given and as it is handed back; so the number of records written over stands beside it.
     list: Vec<Triangle>,
-    // A limit and no length: the list may have memory for more.
-    places: usize,
-    ghost within: { vec_len list ≤ places },
-    ghost reserved: { places ≤ vec_capacity list },
+    held: usize,
+    ghost within: { held ≤ vec_len list },
 }

@@ -1,33 +1,37 @@
 // The calls of a record tray.
-ghost use Rattle.std.specs.Prelude.{◌≡◌, [], IfOk};
-ghost use Rattle.tray.specs.Records.{record_lawful, record_holds, RecordKeeps};
+ghost use Rattle.std.specs.Prelude.{◌≡◌, [], length, take, drop, slice_set, vec_items, MatchResult};
+ghost use Rattle.tray.specs.declared.record_tray.RecordTray.{RecordTray};
+ghost use Rattle.tray.specs.Holding.{KeepsRest, Put, emptied};
+ghost use Rattle.tray.specs.Records.{record_holds, record_lawful, records_of, RecordKeeps};
 
 use crate::record_tray::RecordTray;
 use crate::tray::{Full, Tray};
 use crate::triangle::Triangle;
-use std::alloc::{AllocError, Global};
 
 impl RecordTray {
-    // An empty tray with this number of free places; refused where there is no memory for them.
-    pub fn new(heap: Global, places: usize) -> Result<RecordTray, AllocError>
-        ensures { IfOk result (λ s. record_holds s ≡ record { list = []; free = places }) }
+    // An empty tray over the list, whose records stay as they are.
+    pub fn new(list: Vec<Triangle>) -> RecordTray
+        ensures holds { record_holds result ≡ record { list = []; free = length list.items } }
+        ensures list { result.list ≡ list }
     {
-        let list = Vec::with_capacity(heap, places)?;
-        Ok(RecordTray { list, places })
+        RecordTray { list, held: 0 }
     }
 
     // The triangles that it holds.
     pub fn triangles(&self) -> &[Triangle]
         ensures { result.now ≡ (record_holds self.now).list }
     {
-        self.list.as_slice()
+        &self.list[..self.held]
     }
 
-    // Ends the tray, and hands its list back.
+    // Ends the tray, and hands the list back, whole: in front stand the triangles that it held, and then what stood there at any
+    // time since which no record past them was written over.
     pub fn into_list(self) -> Vec<Triangle>
-        ensures { result.items ≡ (record_holds self).list }
+        ensures list { result ≡ self.list }
+        ensures held { take (length (record_holds self).list) result.items ≡ (record_holds self).list }
+        ensures given { (before : RecordTray) → KeepsRest record_holds RecordKeeps before self → drop (length (record_holds self).list) result.items ≡ drop (length (record_holds self).list) (records_of before) }
     {
-        let RecordTray { list, places: _ } = self;
+        let RecordTray { list, held: _ } = self;
         list
     }
 }
@@ -40,26 +44,38 @@ impl Tray for RecordTray {
     ghost lawful = { record_lawful };
 
     fn free(&self) -> usize {
-        self.places - self.list.len()
+        self.list.len() - self.held
     }
 
     fn held(&self) -> usize {
-        self.list.len()
+        self.held
     }
 
     fn nth(&self, n: usize) -> Option<Triangle> {
-        self.list.get(n).copied()
+        self.triangles().get(n).copied()
     }
 
-    fn put(&mut self, triangle: Triangle) -> Result<(), Full> {
-        if self.list.len() >= self.places {
+    // Writes over the record in the next place, and changes no other.
+    fn put(&mut self, triangle: Triangle) -> Result<(), Full>
+        ensures put { Put (record_holds self.old) triangle result (record_holds self.new) }
+        ensures rest { KeepsRest record_holds RecordKeeps self.old self.new }
+        ensures records { MatchResult result (λ _. records_of self.new ≡ slice_set (records_of self.old) (length (record_holds self.old).list) triangle) (λ _. records_of self.new ≡ records_of self.old) }
+    {
+        let n = self.held;
+        if n >= self.list.len() {
             return Err(Full);
         }
-        self.list.push_reserved(triangle);
+        self.list[n] = triangle;
+        self.held = n + 1;
         Ok(())
     }
 
-    fn empty(&mut self) {
-        self.list.clear();
+    // Changes no record.
+    fn empty(&mut self)
+        ensures emptied { record_holds self.new ≡ emptied (record_holds self.old) }
+        ensures rest { RecordKeeps 0 self.old self.new }
+        ensures records { records_of self.new ≡ records_of self.old }
+    {
+        self.held = 0;
     }
 }

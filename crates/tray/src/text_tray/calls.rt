@@ -15,7 +15,7 @@ impl TextTray {
     // An empty tray over the bytes, which stay as they are.
     pub fn new(bytes: Vec<u8>) -> TextTray
         ensures holds { text_holds result ≡ record { list = []; free = length bytes.items / 27 } }
-        ensures bytes { bytes_of result ≡ bytes.items }
+        ensures bytes { result.bytes ≡ bytes }
     {
         TextTray { bytes, held: 0 }
     }
@@ -31,7 +31,7 @@ impl TextTray {
     // Ends the tray, and hands the bytes back, whole: in front stands the text of what it held, and then what stood there at any
     // time since which no line past the text was written.
     pub fn into_bytes(self) -> Vec<u8>
-        ensures bytes { result.items ≡ bytes_of self }
+        ensures bytes { result ≡ self.bytes }
         ensures text { take (27 * length (text_holds self).list) result.items ≡ text_of (text_holds self).list }
         ensures given { (before : TextTray) → KeepsRest text_holds TextKeeps before self → drop (27 * length (text_holds self).list) result.items ≡ drop (27 * length (text_holds self).list) (bytes_of before) }
     {

@@ -1,20 +1,15 @@
-use Rattle.std.proofs.Common.{Err, inr, subst, ◌∙◌, sym}
+use Rattle.std.proofs.Common.{rules, subst}
+use Rattle.std.proofs.lemmas.Result.{err_from_is_err_and}
 use Rattle.scan.specs.Blocks.{block_means}
-use Rattle.drawing.specs.Opening.{Opened}
-use Rattle.drawing.specs.declared.asked.Asked.{Asked}
-use Rattle.exported.proofs.Numbers.{some_number}
+use Rattle.drawing.specs.Opening.{Refused}
+use Rattle.exported.specs.Askings.{OpenRefused}
 use Rattle.exported.proofs.opening.open.Goals as goal
 
-pub returns-in-Err-open : goal.returns-in-Err-open
-returns-in-Err-open c =
-    let m = block_means c.in-Ok.block.sides c.in-Ok.block.values.items in
-    let refusal = c.in-Err-open.refusal in (
-      inr (inr (record {
-        scan = m;
-        shows = c.in-Ok.ensures;
-        opening = Err refusal;
-        opened = subst (λ (a : Asked). Opened m a (Err refusal)) c.asked.ensures c.in-Err-open.ensures;
-        told = c.into.ensures;
-      })),
-      λ none. some_number refusal (sym c.into.ensures ∙ none),
-    )
+pub returns-in_err-drawing : goal.returns-in_err-drawing
+returns-in_err-drawing c =
+    let a = c.args.asking.now in
+    let e = c.in_err-drawing.field-0.0 in
+    let m = block_means c.in_ok-block.block.sides c.in_ok-block.block.values.items in
+    let exit = err_from_is_err_and c.from_residual-in_err-drawing.result c.from_residual-in_err-drawing.ensures.1 in
+    let refused : OpenRefused a c.args.readings.now e = record { scan = m; shows = search rules; refused = subst (λ asked. Refused m asked e) c.opening.ensures c.in_err-drawing.ensures } in
+    rw (exit.1, exit.2) refused
