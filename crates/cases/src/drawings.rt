@@ -8,8 +8,9 @@ use grid::Voxel;
 use scan::{Block, Cause, Fault};
 use session::{Answer, Call, Entry};
 use std::alloc::Global;
+use std::process::Abort;
 use std::test::Fail;
-use tray::RecordTray;
+use tray::{AnyTray, RecordTray, TextTray, Tray, Triangle};
 
 // A call that is not made yet.
 fn entry(call: Call) -> Entry {
@@ -41,7 +42,7 @@ fn drawn(drawn: u32, laid: u32, left: u32, ending: Ending) -> Option<Answer> {
 }
 
 // Makes the calls on a block and some trays, with no other scan.
-fn run(block: &Block, trays: &mut [RecordTray], entries: &mut [Entry]) {
+fn run<T: Tray>(block: &Block, trays: &mut [T], entries: &mut [Entry]) {
     let others: [Block; 0] = [];
     let _ = session::run(block, &others, trays, entries);
 }
@@ -50,7 +51,8 @@ fn run(block: &Block, trays: &mut [RecordTray], entries: &mut [Entry]) {
 fn opened(heap: Global, values: &[u16], threshold: u16) -> Result<Option<Answer>, Fail> {
     let block = block(heap, [2, 2, 2], values)?;
     let mut entries = [open(threshold)];
-    run(&block, &mut [], &mut entries);
+    let mut none: [RecordTray; 0] = [];
+    run(&block, &mut none, &mut entries);
     Ok(entries[0].answer)
 }
 
@@ -98,6 +100,77 @@ fn two_triangles_want_two_places(rt: HostRuntime) -> Result<(), Fail> {
     assert_eq!(rt; entries[3].answer, drawn(1, 2, 1, Ending::Budget));
     let zero = Some(Answer::Drawn(Err(DrawRefusal::ZeroBudget)));
     assert_eq!(rt; entries[4].answer, zero);
+    Ok(())
+}
+
+// Cubes 0 to 11 lay 1, 2, 1, 1, 2, 1, 1, 2, 1, 1, 2 and 1 triangles. Tray 0 has five places and tray 1 three.
+fn in_both_kinds() -> [Entry; 11] {
+    [
+        open(5),
+        draw(0, 100),
+        draw(1, 1),
+        draw(1, 100),
+        entry(Call::Empty { tray: 0 }),
+        draw(0, 0),
+        entry(Call::Close),
+        draw(0, 100),
+        entry(Call::Empty { tray: 1 }),
+        draw(1, 100),
+        entry(Call::Close),
+    ]
+}
+
+// A draw that ends before a cube with so many triangles, at a full tray.
+fn filled(cubes: u32, laid: u32, left: u32, triangles: u32) -> Option<Answer> {
+    drawn(cubes, laid, left, Ending::Full { triangles, free: 0 })
+}
+
+// What they answer.
+fn answers_in_both_kinds() -> [Option<Answer>; 11] {
+    [
+        Some(Answer::Opened(Ok(()))),
+        filled(4, 5, 8, 2),
+        drawn(1, 2, 7, Ending::Budget),
+        filled(1, 1, 6, 1),
+        Some(Answer::Emptied),
+        Some(Answer::Drawn(Err(DrawRefusal::ZeroBudget))),
+        Some(Answer::Closed(Err(Unfinished))),
+        filled(4, 5, 2, 2),
+        Some(Answer::Emptied),
+        drawn(2, 3, 0, Ending::Done),
+        Some(Answer::Closed(Ok(Report {
+            cubes: 12,
+            triangles: 16,
+        }))),
+    ]
+}
+
+// Sees that a full tray holds so many triangles of a list, from a place on.
+fn holds(rt: &impl Abort, tray: &AnyTray, list: &[Triangle], from: usize, many: usize) {
+    assert_eq!(rt; (tray.held(), tray.free()), (many, 0));
+    for (n, triangle) in list.iter().skip(from).take(many).enumerate() {
+        assert_eq!(rt; tray.nth(n), Some(*triangle));
+    }
+}
+
+#[test]
+fn records_and_text_in_one_list(rt: HostRuntime) -> Result<(), Fail> {
+    let heap = rt.alloc();
+    let block = block(heap, [4, 3, 3], &two_voxels())?;
+    let text = TextTray::new(vec![in heap; b'.'; 85]?);
+    let mut trays: [AnyTray; 2] = [with_places(heap, 5)?.into(), text.into()];
+    let mut entries = in_both_kinds();
+    run(&block, &mut trays, &mut entries);
+    for (entry, answer) in entries.iter().zip(answers_in_both_kinds()) {
+        assert_eq!(rt; entry.answer, answer);
+    }
+    let mut whole = [with_places(heap, 16)?];
+    run(&block, &mut whole, &mut [open(5), draw(0, 100)]);
+    let list = whole[0].triangles();
+    assert_eq!(rt; list.len(), 16);
+    holds(&rt, &trays[0], list, 8, 5);
+    holds(&rt, &trays[1], list, 13, 3);
+    assert!(rt; matches!(&trays[1], AnyTray::Text(_)));
     Ok(())
 }
 

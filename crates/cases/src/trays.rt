@@ -86,6 +86,37 @@ fn each_byte_damaged(rt: HostRuntime) -> Result<(), Fail> {
 }
 
 #[test]
+fn records_written_over(rt: HostRuntime) -> Result<(), Fail> {
+    let blank = Triangle::new(0, 1, 2)?;
+    let first = Triangle::new(36, 14, 31)?;
+    let second = Triangle::new(39, 31, 14)?;
+    let mut tray = with_places(rt.alloc(), 3)?;
+    tray.put(first)?;
+    tray.put(second)?;
+    assert_eq!(rt; tray.triangles(), [first, second].as_slice());
+    tray.empty();
+    assert_eq!(rt; (tray.held(), tray.free(), tray.nth(0)), (0, 3, None));
+    tray.put(second)?;
+    assert_eq!(rt; tray.triangles(), [second].as_slice());
+    assert_eq!(rt;
+        tray.into_list().as_slice(),
+        [second, second, blank].as_slice()
+    );
+    Ok(())
+}
+
+#[test]
+fn a_full_record_tray(rt: HostRuntime) -> Result<(), Fail> {
+    let first = Triangle::new(36, 14, 31)?;
+    let second = Triangle::new(39, 31, 14)?;
+    let mut tray = with_places(rt.alloc(), 1)?;
+    tray.put(first)?;
+    assert!(rt; tray.put(second).is_err());
+    assert_eq!(rt; tray.into_list().as_slice(), [first].as_slice());
+    Ok(())
+}
+
+#[test]
 fn poured_until_full(rt: HostRuntime) -> Result<(), Fail> {
     let mut records = with_places(rt.alloc(), 2)?;
     let from = *b"00000036,00000014,00000031\n00000039,00000031,00000014\n";

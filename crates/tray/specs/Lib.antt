@@ -2,6 +2,7 @@ pub mod Buffers
 pub mod Corners
 pub mod Decimal
 pub mod Holding
+pub mod Kinds
 pub mod Lines
 pub mod Pasts
 pub mod Reading

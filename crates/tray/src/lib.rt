@@ -1,6 +1,7 @@
 // Triangles of a surface, the trays that hold them, and their text.
 #![tactic(auto)]
 
+mod any_tray;
 mod digits;
 mod line;
 mod pouring;
@@ -10,6 +11,7 @@ mod text_tray;
 mod tray;
 mod triangle;
 
+pub use any_tray::AnyTray;
 pub use digits::{eight_digits, read_digits};
 pub use line::{read_line, read_line_at, write_line_at};
 pub use pouring::pour;
