@@ -94,6 +94,15 @@ module _ {T : Type 0} (holds : T → Held) (keeps : ℕ → T → T → Type 0) 
         let few : length (holds y).list ≤ n = subst (λ (k : Held). length k.list ≤ n) (at_tray holds ys t d h.0) most in
         lawful.steps _ n n x y y few (omega arith) h.1.rest (lawful.stays n y)
 
+    -- All past its places is as it was, whatever it holds.
+    past_left : (xs ys : List T) (t : ℕ) (d : T) → Left xs ys t d → keeps (places (holds (get_or xs t d))) (get_or xs t d) (get_or ys t d)
+    past_left xs ys t d (inl e) = subst (keeps (places (holds (get_or xs t d))) (get_or xs t d)) (sym e) (lawful.stays _ (get_or xs t d))
+    past_left xs ys t d (inr h) =
+        let y = get_or ys t d in
+        let k = places (holds (get_or xs t d)) in
+        let same = h.1.same in
+        lawful.steps _ k k (get_or xs t d) y y (omega arith) (omega arith) h.1.rest (lawful.stays k y)
+
     module _ (m : Meaning) (others : List Meaning) where
       many_through : (s s' : Standing T) (es : List Entry) → RunsOn m others holds keeps s es s' → length s'.trays ≡ length s.trays
       many_through s s' [] h = ap (λ (u : Standing T). length u.trays) h
@@ -105,6 +114,16 @@ module _ {T : Type 0} (holds : T → Held) (keeps : ℕ → T → T → Type 0) 
       same_through s s' (e ∷ es) (u, made, leaves, runs) t d =
           same_through u s' es runs t d ∙ same_left s.trays u.trays t d (left e.call e.answer s.trays u.trays leaves t d)
 
+      past_through : (s s' : Standing T) (es : List Entry) → RunsOn m others holds keeps s es s'
+          → (t : ℕ) (d : T) → keeps (places (holds (get_or s.trays t d))) (get_or s.trays t d) (get_or s'.trays t d)
+      past_through s s' [] h t d =
+          subst (λ (u : Standing T). keeps (places (holds (get_or s.trays t d))) (get_or s.trays t d) (get_or u.trays t d)) (sym h) (lawful.stays _ (get_or s.trays t d))
+      past_through s s' (e ∷ es) (u, made, leaves, runs) t d =
+          let at = left e.call e.answer s.trays u.trays leaves t d in
+          let same = same_left s.trays u.trays t d at in
+          let k = places (holds (get_or s.trays t d)) in
+          lawful.steps k _ k _ _ _ (omega arith) (omega arith) (past_left s.trays u.trays t d at) (past_through u s' es runs t d)
+
       rest_through : (s s' : Standing T) (es : List Entry) → RunsOn m others holds keeps s es s'
           → (t n : ℕ) (d : T) → HoldsAtMost m others (world_of holds s) es t n → keeps n (get_or s.trays t d) (get_or s'.trays t d)
       rest_through s s' [] h t n d most =
@@ -115,4 +134,4 @@ module _ {T : Type 0} (holds : T → Held) (keeps : ℕ → T → T → Type 0) 
           (rest_through u s' es runs t n d (λ k v later. most (suc k) v (world_of holds u, made, later)))
 
       pub all_kept : (s s' : Standing T) (es : List Entry) → RunsOn m others holds keeps s es s' → AllKept m others holds keeps s es s'.trays
-      all_kept s s' es runs = record { many = many_through s s' es runs; same = same_through s s' es runs; rest = rest_through s s' es runs }
+      all_kept s s' es runs = record { many = many_through s s' es runs; same = same_through s s' es runs; past = past_through s s' es runs; rest = rest_through s s' es runs }

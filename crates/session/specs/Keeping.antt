@@ -60,9 +60,10 @@ RunsOn {T} m others holds keeps s (e ∷ es) s' =
 abbrev pub HoldsAtMost : Meaning → List Meaning → World → List Entry → ℕ → ℕ → Type 0
 HoldsAtMost m others w es t n = (k : ℕ) (v : World) → Runs m others w (take (suc k) es) v → length (tray_at v.trays t).list ≤ n
 
--- Through a list of calls each tray has as many places as before, and whatever it stands over past the greatest number of
--- triangles that it holds after any of them is as it was.
+-- Through a list of calls each tray has as many places as before, and whatever it stands over past them is as it was; so is
+-- whatever it stands over past the greatest number of triangles that it holds after any of the calls.
 pub record AllKept {T : Type 0} (m : Meaning) (others : List Meaning) (holds : T → Held) (keeps : ℕ → T → T → Type 0) (s : Standing T) (es : List Entry) (after : List T) : Type 0 where
   pub many : length after ≡ length s.trays
   pub same : (t : ℕ) (d : T) → places (holds (slice_index_or after t d)) ≡ places (holds (slice_index_or s.trays t d))
+  pub past : (t : ℕ) (d : T) → keeps (places (holds (slice_index_or s.trays t d))) (slice_index_or s.trays t d) (slice_index_or after t d)
   pub rest : (t n : ℕ) (d : T) → HoldsAtMost m others (world_of holds s) es t n → keeps n (slice_index_or s.trays t d) (slice_index_or after t d)
