@@ -40,12 +40,28 @@ module _ {T : Type 0} (holds : T → Held) (keeps : ℕ → T → T → Type 0) 
       let k : Kept holds keeps (get_or xs i x) y = record { same = same; rest = rest } in
       record { tray = y; only = refl; kept = λ d. subst (λ (z : T). Kept holds keeps z y) (get_or_default xs i x d lt) k }
 
-  -- A tray of a list is the same after a call, or it is there and kept.
+  -- A call touches no tray, or keeps one.
+  abbrev Changed : List T → List T → Type 0
+  Changed xs ys = (ys ≡ xs) ⊎ ((i : ℕ) × OneKept holds keeps i xs ys)
+
+  changed_but : (i : ℕ) (a : Option Answer) (xs ys : List T) → LeavesBut holds keeps i a xs ys → Changed xs ys
+  changed_but i None xs ys h = inl h
+  changed_but i (Some a) xs ys h = inr (i, h)
+
+  changed : (c : Call) (a : Option Answer) (xs ys : List T) → Leaves holds keeps c a xs ys → Changed xs ys
+  changed (Open asked) a xs ys h = inl h
+  changed (Draw i budget) a xs ys h = changed_but i a xs ys h
+  changed (DrawOther o i budget) a xs ys h = changed_but i a xs ys h
+  changed Close a xs ys h = inl h
+  changed (Empty i) a xs ys h = changed_but i a xs ys h
+
+  as_many : (xs ys : List T) → Changed xs ys → length ys ≡ length xs
+  as_many xs ys (inl e) = ap length e
+  as_many xs ys (inr (i, one)) = ap length one.only ∙ length-set xs i one.tray
+
+  -- Each tray of the list is the same, or it is there and kept.
   abbrev Left : List T → List T → ℕ → T → Type 0
   Left xs ys t d = (get_or ys t d ≡ get_or xs t d) ⊎ ((t < length ys) × Kept holds keeps (get_or xs t d) (get_or ys t d))
-
-  left_same : (xs ys : List T) → ys ≡ xs → (t : ℕ) (d : T) → Left xs ys t d
-  left_same xs ys e t d = inl (ap (λ (l : List T). get_or l t d) e)
 
   left_at : (xs : List T) (i : ℕ) (y d : T) → Kept holds keeps (get_or xs i d) y → ((i < length xs) ⊎ (length xs ≤ i)) → Left xs (set xs i y) i d
   left_at xs i y d k (inr past) = inl (get_or_past (set xs i y) i d (omega (arith, length-set xs i y)) ∙ sym (get_or_past xs i d past))
@@ -58,80 +74,50 @@ module _ {T : Type 0} (holds : T → Held) (keeps : ℕ → T → T → Type 0) 
       (λ (ne : t ≡ i → ⊥). inl (get_or-set_other xs i t y d ne))
       (cases_eq t i)
 
-  left_but : (i : ℕ) (a : Option Answer) (xs ys : List T) → LeavesBut holds keeps i a xs ys → (t : ℕ) (d : T) → Left xs ys t d
-  left_but i None xs ys h t d = left_same xs ys h t d
-  left_but i (Some a) xs ys h t d = subst (λ (l : List T). Left xs l t d) (sym h.only) (left_set xs i h.tray h.kept t d)
-
-  left : (c : Call) (a : Option Answer) (xs ys : List T) → Leaves holds keeps c a xs ys → (t : ℕ) (d : T) → Left xs ys t d
-  left (Open asked) a xs ys h t d = left_same xs ys h t d
-  left (Draw i budget) a xs ys h t d = left_but i a xs ys h t d
-  left (DrawOther o i budget) a xs ys h t d = left_but i a xs ys h t d
-  left Close a xs ys h t d = left_same xs ys h t d
-  left (Empty i) a xs ys h t d = left_but i a xs ys h t d
-
-  many_but : (i : ℕ) (a : Option Answer) (xs ys : List T) → LeavesBut holds keeps i a xs ys → length ys ≡ length xs
-  many_but i None xs ys h = ap length h
-  many_but i (Some a) xs ys h = ap length h.only ∙ length-set xs i h.tray
-
-  as_many : (c : Call) (a : Option Answer) (xs ys : List T) → Leaves holds keeps c a xs ys → length ys ≡ length xs
-  as_many (Open asked) a xs ys h = ap length h
-  as_many (Draw i budget) a xs ys h = many_but i a xs ys h
-  as_many (DrawOther o i budget) a xs ys h = many_but i a xs ys h
-  as_many Close a xs ys h = ap length h
-  as_many (Empty i) a xs ys h = many_but i a xs ys h
+  left : (xs ys : List T) → Changed xs ys → (t : ℕ) (d : T) → Left xs ys t d
+  left xs ys (inl e) t d = inl (ap (λ (l : List T). get_or l t d) e)
+  left xs ys (inr (i, one)) t d = subst (λ (l : List T). Left xs l t d) (sym one.only) (left_set xs i one.tray one.kept t d)
 
   same_left : (xs ys : List T) (t : ℕ) (d : T) → Left xs ys t d → places (holds (get_or ys t d)) ≡ places (holds (get_or xs t d))
   same_left xs ys t d (inl e) = ap (λ (x : T). places (holds x)) e
   same_left xs ys t d (inr h) = h.1.same
 
   module _ (lawful : Lawful holds keeps) where
-    -- All past n triangles is as it was after a call where the tray holds no more.
-    rest_left : (xs ys : List T) (t n : ℕ) (d : T) → Left xs ys t d → length (tray_at (map holds ys) t).list ≤ n → keeps n (get_or xs t d) (get_or ys t d)
-    rest_left xs ys t n d (inl e) most = subst (keeps n (get_or xs t d)) (sym e) (lawful.stays n (get_or xs t d))
-    rest_left xs ys t n d (inr h) most =
-        let x = get_or xs t d in
+    -- All past n places of a tray is as it was, if the tray holds no more, or has no more places.
+    rest_left : (xs ys : List T) (t n : ℕ) (d : T) → Left xs ys t d → (t < length ys → length (holds (get_or ys t d)).list ≤ n)
+        → keeps n (get_or xs t d) (get_or ys t d)
+    rest_left xs ys t n d (inl e) few = subst (keeps n (get_or xs t d)) (sym e) (lawful.stays n (get_or xs t d))
+    rest_left xs ys t n d (inr h) few =
         let y = get_or ys t d in
-        let few : length (holds y).list ≤ n = subst (λ (k : Held). length k.list ≤ n) (at_tray holds ys t d h.0) most in
-        lawful.steps _ n n x y y few (omega arith) h.1.rest (lawful.stays n y)
+        lawful.steps _ n n (get_or xs t d) y y (few h.0) (omega arith) h.1.rest (lawful.stays n y)
 
-    -- All past its places is as it was, whatever it holds.
-    past_left : (xs ys : List T) (t : ℕ) (d : T) → Left xs ys t d → keeps (places (holds (get_or xs t d))) (get_or xs t d) (get_or ys t d)
-    past_left xs ys t d (inl e) = subst (keeps (places (holds (get_or xs t d))) (get_or xs t d)) (sym e) (lawful.stays _ (get_or xs t d))
-    past_left xs ys t d (inr h) =
-        let y = get_or ys t d in
-        let k = places (holds (get_or xs t d)) in
-        let same = h.1.same in
-        lawful.steps _ k k (get_or xs t d) y y (omega arith) (omega arith) h.1.rest (lawful.stays k y)
-
-    module _ (m : Meaning) (others : List Meaning) where
-      many_through : (s s' : Standing T) (es : List Entry) → RunsOn m others holds keeps s es s' → length s'.trays ≡ length s.trays
-      many_through s s' [] h = ap (λ (u : Standing T). length u.trays) h
-      many_through s s' (e ∷ es) (u, made, leaves, runs) = many_through u s' es runs ∙ as_many e.call e.answer s.trays u.trays leaves
-
-      same_through : (s s' : Standing T) (es : List Entry) → RunsOn m others holds keeps s es s'
-          → (t : ℕ) (d : T) → places (holds (get_or s'.trays t d)) ≡ places (holds (get_or s.trays t d))
-      same_through s s' [] h t d = ap (λ (u : Standing T). places (holds (get_or u.trays t d))) h
-      same_through s s' (e ∷ es) (u, made, leaves, runs) t d =
-          same_through u s' es runs t d ∙ same_left s.trays u.trays t d (left e.call e.answer s.trays u.trays leaves t d)
-
-      past_through : (s s' : Standing T) (es : List Entry) → RunsOn m others holds keeps s es s'
-          → (t : ℕ) (d : T) → keeps (places (holds (get_or s.trays t d))) (get_or s.trays t d) (get_or s'.trays t d)
-      past_through s s' [] h t d =
-          subst (λ (u : Standing T). keeps (places (holds (get_or s.trays t d))) (get_or s.trays t d) (get_or u.trays t d)) (sym h) (lawful.stays _ (get_or s.trays t d))
-      past_through s s' (e ∷ es) (u, made, leaves, runs) t d =
-          let at = left e.call e.answer s.trays u.trays leaves t d in
-          let same = same_left s.trays u.trays t d at in
-          let k = places (holds (get_or s.trays t d)) in
-          lawful.steps k _ k _ _ _ (omega arith) (omega arith) (past_left s.trays u.trays t d at) (past_through u s' es runs t d)
-
-      rest_through : (s s' : Standing T) (es : List Entry) → RunsOn m others holds keeps s es s'
-          → (t n : ℕ) (d : T) → HoldsAtMost m others (world_of holds s) es t n → keeps n (get_or s.trays t d) (get_or s'.trays t d)
-      rest_through s s' [] h t n d most =
-          subst (λ (u : Standing T). keeps n (get_or s.trays t d) (get_or u.trays t d)) (sym h) (lawful.stays n (get_or s.trays t d))
-      rest_through s s' (e ∷ es) (u, made, leaves, runs) t n d most =
-          lawful.steps n n n _ _ _ (omega arith) (omega arith)
-          (rest_left s.trays u.trays t n d (left e.call e.answer s.trays u.trays leaves t d) (most 0 (world_of holds u) (world_of holds u, made, refl)))
-          (rest_through u s' es runs t n d (λ k v later. most (suc k) v (world_of holds u, made, later)))
-
-      pub all_kept : (s s' : Standing T) (es : List Entry) → RunsOn m others holds keeps s es s' → AllKept m others holds keeps s es s'.trays
-      all_kept s s' es runs = record { many = many_through s s' es runs; same = same_through s s' es runs; past = past_through s s' es runs; rest = rest_through s s' es runs }
+    -- Each call keeps the trays, and so does the list.
+    pub all_kept : (m : Meaning) (others : List Meaning) (s s' : Standing T) (es : List Entry)
+        → RunsOn m others holds keeps s es s' → AllKept m others holds keeps s es s'.trays
+    all_kept m others s s' [] h =
+        let still : AllKept m others holds keeps s [] s.trays = record {
+          many = refl;
+          same = λ t d. refl;
+          past = λ t d. lawful.stays _ _;
+          rest = λ t n d most. lawful.stays n _;
+        } in
+        subst (λ (u : Standing T). AllKept m others holds keeps s [] u.trays) (sym h) still
+    all_kept m others s s' (e ∷ es) (u, made, leaves, runs) =
+        let one = changed e.call e.answer s.trays u.trays leaves in
+        let at = left s.trays u.trays one in
+        let on = all_kept m others u s' es runs in
+        let same : (t : ℕ) (d : T) → places (holds (get_or u.trays t d)) ≡ places (holds (get_or s.trays t d)) =
+        λ t d. same_left s.trays u.trays t d (at t d) in
+        record {
+          many = on.many ∙ as_many s.trays u.trays one;
+          same = λ t d. on.same t d ∙ same t d;
+          past = λ t d.
+              let k = places (holds (get_or s.trays t d)) in
+              lawful.steps k _ k _ _ _ (omega arith) (omega (arith, same t d))
+              (rest_left s.trays u.trays t k d (at t d) (λ there. omega (arith, same t d))) (on.past t d);
+          rest = λ t n d most.
+              lawful.steps n n n _ _ _ (omega arith) (omega arith)
+              (rest_left s.trays u.trays t n d (at t d)
+              (λ there. subst (λ (k : Held). length k.list ≤ n) (at_tray holds u.trays t d there) (most 0 (world_of holds u) (world_of holds u, made, refl))))
+              (on.rest t n d (λ k v later. most (suc k) v (world_of holds u, made, later)));
+        }
