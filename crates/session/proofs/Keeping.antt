@@ -12,8 +12,7 @@ use Rattle.drawing.specs.declared.drawing.Drawing.{Drawing}
 use Rattle.drawing.specs.declared.progress.DrawRefusal.{DrawRefusal}
 use Rattle.drawing.specs.declared.progress.DrawRefusal.TheVariants.{OtherSides, ZeroBudget}
 use Rattle.drawing.specs.declared.progress.Progress.{Progress}
-use Rattle.session.specs.Worlds.{tray_at}
-use Rattle.session.specs.Keeping.{Kept, OneKept, LeavesBut, Leaves, Standing, world_of, RunsOn, HoldsAtMost, AllKept}
+use Rattle.session.specs.Keeping.{Kept, OneKept, LeavesBut, Leaves, Standing, world_of, RunsOn, AllKept}
 use Rattle.session.specs.declared.call.Answer.{Answer}
 use Rattle.session.specs.declared.call.Call.{Call}
 use Rattle.session.specs.declared.call.Call.TheVariants.{Open, Draw, DrawOther, Close, Empty}
@@ -41,21 +40,21 @@ module _ {T : Type 0} (holds : T → Held) (keeps : ℕ → T → T → Type 0) 
       record { tray = y; only = refl; kept = λ d. subst (λ (z : T). Kept holds keeps z y) (get_or_default xs i x d lt) k }
 
   -- A call touches no tray, or keeps one.
-  abbrev Changed : List T → List T → Type 0
+  abbrev pub Changed : List T → List T → Type 0
   Changed xs ys = (ys ≡ xs) ⊎ ((i : ℕ) × OneKept holds keeps i xs ys)
 
   changed_but : (i : ℕ) (a : Option Answer) (xs ys : List T) → LeavesBut holds keeps i a xs ys → Changed xs ys
   changed_but i None xs ys h = inl h
   changed_but i (Some a) xs ys h = inr (i, h)
 
-  changed : (c : Call) (a : Option Answer) (xs ys : List T) → Leaves holds keeps c a xs ys → Changed xs ys
+  pub changed : (c : Call) (a : Option Answer) (xs ys : List T) → Leaves holds keeps c a xs ys → Changed xs ys
   changed (Open asked) a xs ys h = inl h
   changed (Draw i budget) a xs ys h = changed_but i a xs ys h
   changed (DrawOther o i budget) a xs ys h = changed_but i a xs ys h
   changed Close a xs ys h = inl h
   changed (Empty i) a xs ys h = changed_but i a xs ys h
 
-  as_many : (xs ys : List T) → Changed xs ys → length ys ≡ length xs
+  pub as_many : (xs ys : List T) → Changed xs ys → length ys ≡ length xs
   as_many xs ys (inl e) = ap length e
   as_many xs ys (inr (i, one)) = ap length one.only ∙ length-set xs i one.tray
 
@@ -90,6 +89,13 @@ module _ {T : Type 0} (holds : T → Held) (keeps : ℕ → T → T → Type 0) 
     rest_left xs ys t n d (inr h) few =
         let y = get_or ys t d in
         lawful.steps _ n n (get_or xs t d) y y (few h.0) (omega arith) h.1.rest (lawful.stays n y)
+
+    -- Each tray is kept.
+    pub each_kept : (xs ys : List T) → Changed xs ys → (t : ℕ) (d : T) → Kept holds keeps (get_or xs t d) (get_or ys t d)
+    each_kept xs ys one t d =
+        let x = get_or xs t d in
+        let still : Kept holds keeps x x = record { same = refl; rest = lawful.stays _ x } in
+        ⊎_elim (λ e. subst (Kept holds keeps x) (sym e) still) (λ h. h.1) (left xs ys one t d)
 
     -- Each call keeps the trays, and so does the list.
     pub all_kept : (m : Meaning) (others : List Meaning) (s s' : Standing T) (es : List Entry)
