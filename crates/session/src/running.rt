@@ -10,7 +10,8 @@ use scan::Scan;
 use tray::Tray;
 
 // Makes the calls of the entries one after the other on a scan and the trays, writes each answer beside its call, and
-// answers how things stand at the end. A call that cannot be made where it stands has no answer and changes nothing.
+// answers how things stand at the end. A call touches no tray but the one that it names; one that cannot be made where it
+// stands has no answer and changes nothing.
 pub fn run<S: Scan, O: Scan, T: Tray>(
     scan: &S,
     others: &[O],
