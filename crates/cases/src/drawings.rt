@@ -13,12 +13,12 @@ use std::test::Fail;
 use tray::{AnyTray, RecordTray, TextTray, Tray, Triangle};
 
 // A call that is not made yet.
-fn entry(call: Call) -> Entry {
+pub(crate) fn entry(call: Call) -> Entry {
     Entry { call, answer: None }
 }
 
 // An opening under H and (18,6).
-fn open(threshold: u16) -> Entry {
+pub(crate) fn open(threshold: u16) -> Entry {
     let test = SolidTest {
         threshold,
         letter: Letter::H,
@@ -27,7 +27,7 @@ fn open(threshold: u16) -> Entry {
 }
 
 // A draw into a tray, as an entry; the program that draws a housing has the call alone.
-fn draw(tray: usize, budget: u32) -> Entry {
+pub(crate) fn draw(tray: usize, budget: u32) -> Entry {
     entry(Call::Draw { tray, budget })
 }
 

@@ -20,4 +20,6 @@ mod programs;
 #[cfg(test)]
 mod scans;
 #[cfg(test)]
+mod texts;
+#[cfg(test)]
 mod trays;

@@ -13,3 +13,4 @@ pub mod Draws
 pub mod Alike
 pub mod Steps
 pub mod Repeats
+pub mod Bytes

@@ -2,6 +2,7 @@ pub mod Worlds
 pub mod Calls
 pub mod Steps
 pub mod Keeping
+pub mod Bytes
 pub mod Surfaces
 pub mod Ways
 pub mod Whole

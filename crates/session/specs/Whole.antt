@@ -1,21 +1,24 @@
 -- All that holds of a list of calls. Assumes nothing.
-use Rattle.std.specs.Prelude.{List}
+use Rattle.std.specs.Prelude.{ℕ, List, map}
 use Rattle.scan.specs.Meaning.{Meaning}
 use Rattle.tray.specs.Holding.{Held}
 use Rattle.tray.specs.declared.triangle.Triangle.{Triangle}
-use Rattle.session.specs.Worlds.{start}
-use Rattle.session.specs.Calls.{Runs}
+use Rattle.session.specs.Keeping.{AllKept, RunsOn, Standing, start_on}
 use Rattle.session.specs.Surfaces.{Surfaced}
 use Rattle.session.specs.Ways.{Repeats}
 use Rattle.session.specs.declared.call.Entry.{Entry}
 use Rattle.session.specs.declared.state.State.{State}
 
 -- A list of calls on a scan and trays, from the first to the last.
-pub record Ran (m : Meaning) (others : List Meaning) (before : List Held) (es : List Entry) (state : State) (after : List Held) : Type 0 where
+pub record Ran {T : Type 0} (m : Meaning) (others : List Meaning) (holds : T → Held) (keeps : ℕ → T → T → Type 0) (before : List T) (es : List Entry) (state : State) (after : List T) : Type 0 where
   pub laid : List Triangle
-  -- Each answer is that of its call, from the trays at the start on, and the trays hold what the calls leave.
-  pub runs : Runs m others (start before) es (record { state = state; trays = after; laid = laid })
+  -- Each answer is that of its call, from the trays at the start on, and the trays are what the calls leave.
+  pub runs : RunsOn m others holds keeps (start_on before) es (record { state = state; trays = after; laid = laid })
   -- What was laid is the surface of the drawn cubes.
   pub surface : Surfaced m state laid
   -- The same calls again answer and lay the same; exchanged, they lay the same triangles turned over.
-  pub repeats : Repeats m others before es (record { state = state; trays = after; laid = laid })
+  pub repeats : Repeats m others (map holds before) es (record { state = state; trays = map holds after; laid = laid })
+  -- From the start, and from any moment on, each tray keeps its places, and all past the most that it holds after a later call.
+  pub kept : (u : Standing T) (later : List Entry)
+      → RunsOn m others holds keeps u later (record { state = state; trays = after; laid = laid })
+      → AllKept m others holds keeps u later after

@@ -2,6 +2,7 @@
 #![tactic(auto)]
 
 mod call;
+mod laws;
 mod number;
 mod printing;
 mod running;
@@ -9,5 +10,6 @@ mod state;
 mod step;
 
 pub use call::{Answer, Call, Entry};
+pub use laws::bytes_known;
 pub use running::run;
 pub use state::State;

@@ -1,7 +1,7 @@
 // One call, made by the public calls of a drawing and of a tray.
 ghost use Rattle.std.specs.Prelude.{◌≡◌, map};
 ghost use Rattle.scan.specs.Meaning.{Meaning};
-ghost use Rattle.session.specs.Keeping.{AllKept};
+ghost use Rattle.session.specs.Keeping.{Leaves, LeavesBut};
 ghost use Rattle.session.specs.Steps.{Clears, Steps, StepsAlone, Tries};
 ghost use Rattle.session.specs.declared.call.Call.TheVariants.{Close, DrawOther, Open};
 
@@ -12,7 +12,7 @@ use scan::Scan;
 use tray::Tray;
 
 // What goes along with a call, scans and trays, goes as it is lent: a struct of shared and exclusive loans would be taken
-// apart by each call. What a call leaves of the trays is one word, `AllKept`.
+// apart by each call. What a call leaves of the trays is one word, `Leaves`.
 
 // A call is listed and compared by the laws, so that it is data and no closure.
 
@@ -25,7 +25,7 @@ pub(crate) fn step<S: Scan, O: Scan, T: Tray>(
     call: Call,
 ) -> (State, Option<Answer>)
     ensures steps { Steps (S.Scan.means scan.now) (map O.Scan.means others.now) state (map T.Tray.holds trays.old) call result.1 result.0 (map T.Tray.holds trays.new) }
-    ensures rest { AllKept T.Tray.holds T.Tray.keeps trays.old trays.new }
+    ensures rest { Leaves T.Tray.holds T.Tray.keeps call result.1 trays.old trays.new }
 {
     match call {
         Call::Open(asked) => open(scan, state, asked),
@@ -64,7 +64,7 @@ fn draw<S: Scan, T: Tray>(
     budget: u32,
 ) -> (State, Option<Answer>)
     ensures tries { Tries (S.Scan.means scan.now) state (map T.Tray.holds trays.old) tray budget result.1 result.0 (map T.Tray.holds trays.new) }
-    ensures rest { AllKept T.Tray.holds T.Tray.keeps trays.old trays.new }
+    ensures rest { LeavesBut T.Tray.holds T.Tray.keeps tray result.1 trays.old trays.new }
 {
     // By index, here and in `empty`: after `get_mut` of a slice nothing is known of its elements.
     if tray >= trays.len() {
@@ -90,7 +90,7 @@ fn draw_other<S: Scan, O: Scan, T: Tray>(
     budget: u32,
 ) -> (State, Option<Answer>)
     ensures steps { Steps (S.Scan.means scan.now) (map O.Scan.means others.now) state (map T.Tray.holds trays.old) (DrawOther other tray budget) result.1 result.0 (map T.Tray.holds trays.new) }
-    ensures rest { AllKept T.Tray.holds T.Tray.keeps trays.old trays.new }
+    ensures rest { LeavesBut T.Tray.holds T.Tray.keeps tray result.1 trays.old trays.new }
 {
     let Some(another) = others.get(other) else {
         return (state, None);
@@ -123,7 +123,7 @@ fn close(state: State) -> (State, Option<Answer>)
 // Empties a tray, if it is there.
 fn empty<T: Tray>(trays: &mut [T], state: State, tray: usize) -> (State, Option<Answer>)
     ensures clears { Clears state (map T.Tray.holds trays.old) tray result.1 result.0 (map T.Tray.holds trays.new) }
-    ensures rest { AllKept T.Tray.holds T.Tray.keeps trays.old trays.new }
+    ensures rest { LeavesBut T.Tray.holds T.Tray.keeps tray result.1 trays.old trays.new }
 {
     if tray >= trays.len() {
         return (state, None);

@@ -1,7 +1,7 @@
 use Rattle.std.proofs.Common.{◌<◌, [], map, length, get_or, refl, inr, arith}
 use lib.ListN.{length-map}
 use Rattle.std.proofs.lemmas.List.{map-set}
-use Rattle.session.proofs.Keeping.{all_still, all_set, kept_by, draw_places}
+use Rattle.session.proofs.Keeping.{one_kept, draw_places}
 use Rattle.session.proofs.Stepping.{no_more, at_tray, drew}
 use Rattle.session.proofs.step.draw.Goals as goal
 
@@ -28,13 +28,13 @@ returns-in-Opened g c =
           drew m c.args.budget t c.args.state hs _ d d' (holds x) (holds y) r _ c.in-Opened.is
           (at_tray holds trays t _ c.if-tray-trays.false) lt law refl (map-set holds trays t y);
       rest =
-          all_set g.T.Tray.lawful trays t c.index-trays-tray.result y c.if-tray-trays.false
-          (kept_by g.T.Tray.lawful x y (draw_places m c.args.budget d d' (holds x) (holds y) r law) c.draw-result.ensures.rest);
+          one_kept holds g.T.Tray.keeps trays t c.index-trays-tray.result y c.if-tray-trays.false
+          (draw_places m c.args.budget d d' (holds x) (holds y) r law) c.draw-result.ensures.rest;
     }
 
 pub returns-in_default : goal.returns-in_default
 returns-in_default g c =
     record {
       tries = ([], λ ts. inr (λ can. absurd (c.in_default.not-Opened can.0.0 can.0.1), refl, no_more _ _ ts));
-      rest = all_still g.T.Tray.lawful c.args.trays.now;
+      rest = refl;
     }

@@ -4,7 +4,7 @@ use Rattle.std.proofs.lemmas.List.{map-set}
 use Rattle.tray.specs.Holding.{emptied, places}
 use Rattle.tray.proofs.Trays.{places_emptied}
 use Rattle.session.specs.Steps.{world}
-use Rattle.session.proofs.Keeping.{all_set, kept_by}
+use Rattle.session.proofs.Keeping.{one_kept}
 use Rattle.session.proofs.Stepping.{at_tray}
 use Rattle.session.proofs.step.empty.Goals as goal
 
@@ -23,6 +23,7 @@ returns g c =
         omega (arith, length-map trays holds, c.if-tray-trays.false),
         (refl, ap (λ hs. world c.args.state hs ts) (map-set holds trays t y ∙ ap (set (map holds trays) t) (empty ∙ ap emptied (sym at)))),
       );
-      rest = all_set g.T.Tray.lawful trays t c.index-trays-tray.result y c.if-tray-trays.false
-          (kept_by g.T.Tray.lawful x y (ap places empty ∙ places_emptied (holds x)) (subst (λ (n : ℕ). g.T.Tray.keeps n x y) (sym none) c.empty.ensures.rest));
+      rest =
+          one_kept holds g.T.Tray.keeps trays t c.index-trays-tray.result y c.if-tray-trays.false
+          (ap places empty ∙ places_emptied (holds x)) (subst (λ (n : ℕ). g.T.Tray.keeps n x y) (sym none) c.empty.ensures.rest);
     }
