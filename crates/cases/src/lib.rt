@@ -18,6 +18,8 @@ mod places;
 #[cfg(test)]
 mod programs;
 #[cfg(test)]
+mod relays;
+#[cfg(test)]
 mod scans;
 #[cfg(test)]
 mod texts;

@@ -50,7 +50,10 @@ fn masks_of_cubes(rt: HostRuntime) -> Result<(), Fail> {
     assert_eq!(rt; mask_of(heap, &values, 0)?, Some(Ok(128)));
     assert_eq!(rt; mask_of(heap, &values, 1)?, Some(Ok(64)));
     assert_eq!(rt; mask_of(heap, &values, 7)?, Some(Ok(1)));
-    assert_eq!(rt; mask_of(heap, &values, 8)?, None);
+    // There are eight cubes.
+    for past in [8, 12, 4_294_967_295] {
+        assert_eq!(rt; mask_of(heap, &values, past)?, None);
+    }
     values[13] = 65_535;
     let voxel = Voxel { x: 1, y: 1, z: 1 };
     let fault = Fault::own(Cause::NoReading, voxel);

@@ -48,5 +48,5 @@ module _ (d : Drawing) (m : Meaning) (s : Spacing) (n : ℕ) (same : m.sides ≡
   pub refused : (r : PlaceRefusal) → EndsFound m n (Err r) → Placed d m s n (Err r)
   refused OtherSides found = absurd found
   refused NoLink found = (same, found)
-  refused (Lacking fault) found = (same, found)
+  refused Lacking found = (same, found)
   refused OneKind found = absurd found

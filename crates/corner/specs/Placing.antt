@@ -1,9 +1,8 @@
 -- Where the corner on a link lies, and what is refused first. Assumes nothing.
-use Rattle.std.specs.Prelude.{◌≡◌, ℕ, true, T, ◌⊎◌, is_ok, Ok, Err, Result, ◌≢◌}
+use Rattle.std.specs.Prelude.{◌≡◌, ℕ, false, T, ◌⊎◌, is_ok, Ok, Err, Result, ◌≢◌}
 use Rattle.grid.specs.Links.{LinkNumbered, NoLink as names-no_link, upper_of}
 use Rattle.grid.specs.declared.link.Link.{Link}
 use Rattle.scan.specs.Meaning.{Meaning}
-use Rattle.scan.specs.declared.fault.Fault.{Fault}
 use Rattle.scan.specs.declared.spacing.Spacing.{Spacing}
 use Rattle.surface.specs.Joined.{crosses}
 use Rattle.drawing.specs.Solids.{solids_of}
@@ -21,7 +20,7 @@ use Rattle.corner.specs.declared.refusal.PlaceRefusal.TheVariants.{OtherSides, N
 abbrev pub number : PlaceRefusal → ℕ
 number OtherSides = 9
 number NoLink = 14
-number (Lacking fault) = 15
+number Lacking = 15
 number OneKind = 16
 
 -- The link of a scan with a number, and the readings at its two ends.
@@ -30,18 +29,18 @@ pub record EndsRead (m : Meaning) (n : ℕ) (e : Ends) : Type 0 where
   pub lower : m.at e.link.lower ≡ Ok e.low
   pub upper : m.at (upper_of e.link) ≡ Ok e.high
 
--- An end of the link with a number lacks a reading, and its fault: that of the upper end only where the lower has one.
-pub record EndLacking (m : Meaning) (n : ℕ) (fault : Fault) : Type 0 where
+-- An end of the link with a number lacks a reading.
+pub record EndLacking (m : Meaning) (n : ℕ) : Type 0 where
   pub link : Link
   pub numbered : LinkNumbered m.sides link n
-  pub first : (m.at link.lower ≡ Err fault) ⊎ ((is_ok (m.at link.lower) ≡ true) × (m.at (upper_of link) ≡ Err fault))
+  pub lacks : (is_ok (m.at link.lower) ≡ false) ⊎ (is_ok (m.at (upper_of link)) ≡ false)
 
 -- A number leads to the ends of its link, or to why it does not.
 abbrev pub EndsFound : Meaning → ℕ → Result Ends PlaceRefusal → Type 0
 EndsFound m n (Ok e) = EndsRead m n e
 EndsFound m n (Err OtherSides) = ⊥
 EndsFound m n (Err NoLink) = names-no_link m.sides n
-EndsFound m n (Err (Lacking fault)) = EndLacking m n fault
+EndsFound m n (Err Lacking) = EndLacking m n
 EndsFound m n (Err OneKind) = ⊥
 
 -- The corner on a link between a solid and a hollow voxel.
@@ -60,6 +59,6 @@ abbrev pub Placed : Drawing → Meaning → Spacing → ℕ → Result Corner Pl
 Placed d m s n (Ok c) = (m.sides ≡ d.sides) × ((e : Ends) × EndsRead m n e × CornerOn d.test m s e c)
 Placed d m s n (Err OtherSides) = m.sides ≢ d.sides
 Placed d m s n (Err NoLink) = (m.sides ≡ d.sides) × names-no_link m.sides n
-Placed d m s n (Err (Lacking fault)) = (m.sides ≡ d.sides) × EndLacking m n fault
+Placed d m s n (Err Lacking) = (m.sides ≡ d.sides) × EndLacking m n
 Placed d m s n (Err OneKind) =
     (m.sides ≡ d.sides) × ((e : Ends) × EndsRead m n e × (T (crosses (solids_of d.test m) e.link) → ⊥))

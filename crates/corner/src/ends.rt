@@ -14,15 +14,14 @@ pub(crate) struct Ends {
 }
 
 impl Ends {
-    // The link with that number and its readings; refused where no link has it, then where an end lacks a reading, the
-    // lower tried first.
+    // The link with that number and its readings; refused where no link has it, then where an end lacks a reading.
     pub(crate) fn read<S: Scan>(scan: &S, number: u32) -> Result<Ends, PlaceRefusal>
         ensures { EndsFound (S.Scan.means scan.now) number result }
     {
         let link = scan.sides().link_at(number).ok_or(PlaceRefusal::NoLink)?;
         let upper = link.upper().ok_or(PlaceRefusal::NoLink)?;
-        let low = scan.read(link.lower)?;
-        let high = scan.read(upper)?;
+        let low = scan.read(link.lower).or(Err(PlaceRefusal::Lacking))?;
+        let high = scan.read(upper).or(Err(PlaceRefusal::Lacking))?;
         Ok(Ends { link, low, high })
     }
 }

@@ -2,9 +2,7 @@
 ghost use Rattle.std.specs.Prelude.{◌≡◌, Some};
 ghost use Rattle.corner.specs.Placing.{number};
 ghost use Rattle.corner.specs.Texts.{place_text};
-ghost use Rattle.corner.specs.declared.refusal.PlaceRefusal.TheVariants.{Lacking};
 
-use scan::Fault;
 use std::error::Error;
 use std::fmt;
 
@@ -15,19 +13,10 @@ pub enum PlaceRefusal {
     OtherSides,
     // No link of the scan has that number.
     NoLink,
-    // An end of the link lacks a reading; the lower end is tried first.
-    Lacking { fault: Fault },
+    // An end of the link lacks a reading.
+    Lacking,
     // Both ends of the link are solid, or both are hollow.
     OneKind,
-}
-
-// An end of the link lacks a reading.
-impl From<Fault> for PlaceRefusal {
-    ghost from_gives = { λ fault refusal. refusal ≡ Lacking fault };
-
-    fn from(fault: Fault) -> PlaceRefusal {
-        PlaceRefusal::Lacking { fault }
-    }
 }
 
 // The refusal's number.
@@ -38,13 +27,13 @@ impl From<PlaceRefusal> for u8 {
         match refusal {
             PlaceRefusal::OtherSides => 9,
             PlaceRefusal::NoLink => 14,
-            PlaceRefusal::Lacking { .. } => 15,
+            PlaceRefusal::Lacking => 15,
             PlaceRefusal::OneKind => 16,
         }
     }
 }
 
-// The refusal's number, the reason, and the fault that it tells.
+// The refusal's number and the reason.
 impl fmt::Display for PlaceRefusal {
     ghost output = { λ refusal. Some (place_text refusal) };
 
@@ -56,9 +45,7 @@ impl fmt::Display for PlaceRefusal {
                 "refused with {number}, the scan has other sides"
             ),
             PlaceRefusal::NoLink => write!(f, "refused with {number}, no link has this number"),
-            PlaceRefusal::Lacking { fault } => {
-                write!(f, "refused with {number}, an end lacks a reading, {fault}")
-            }
+            PlaceRefusal::Lacking => write!(f, "refused with {number}, an end lacks a reading"),
             PlaceRefusal::OneKind => {
                 write!(f, "refused with {number}, both ends are of one kind")
             }

@@ -7,7 +7,7 @@ ghost use Rattle.drawing.specs.declared.letter.Letter.TheVariants.{H};
 use crate::coordinate::{along, at};
 use crate::*;
 use drawing::{Asked, Drawing, Letter, SolidTest};
-use scan::{Block, Cause, Fault, Lengths};
+use scan::{Block, Lengths};
 use std::alloc::Global;
 use std::test::Fail;
 
@@ -147,12 +147,6 @@ fn lacking(heap: Global) -> Result<Block, Fail> {
     block(heap, &values)
 }
 
-// The refusal over an end at a voxel of a block that has no reading.
-fn lacks(at: [u32; 3]) -> PlaceRefusal {
-    let fault = Fault::own(Cause::NoReading, at.into());
-    PlaceRefusal::Lacking { fault }
-}
-
 #[test]
 fn refusals(rt: HostRuntime) -> Result<(), Fail> {
     let whole = shell(rt.alloc(), 9)?;
@@ -162,10 +156,10 @@ fn refusals(rt: HostRuntime) -> Result<(), Fail> {
         // The last link along z has an end outside, and no voxel has the number 27.
         (80, PlaceRefusal::NoLink),
         (81, PlaceRefusal::NoLink),
-        // The lower end is told where both lack a reading, else the one that does.
-        (36, lacks([0, 1, 1])),
-        (39, lacks([1, 1, 1])),
-        (14, lacks([1, 1, 1])),
+        // Both ends lack a reading, the lower alone, and the upper alone.
+        (36, PlaceRefusal::Lacking),
+        (39, PlaceRefusal::Lacking),
+        (14, PlaceRefusal::Lacking),
         (0, PlaceRefusal::OneKind),
     ];
     for (link, expected) in table {
@@ -197,7 +191,7 @@ fn numbers(rt: HostRuntime) {
     let table = [
         (PlaceRefusal::OtherSides, 9),
         (PlaceRefusal::NoLink, 14),
-        (lacks([1, 1, 1]), 15),
+        (PlaceRefusal::Lacking, 15),
         (PlaceRefusal::OneKind, 16),
     ];
     for (refusal, number) in table {
@@ -209,10 +203,10 @@ fn numbers(rt: HostRuntime) {
 #[test]
 fn printed_refusals(rt: HostRuntime) -> Result<(), Fail> {
     let heap = rt.alloc();
-    let lacking = lacks([1, 2, 3]);
+    let lacking = PlaceRefusal::Lacking;
     assert_eq!(rt;
         format!(in heap; "{lacking}")?.as_str(),
-        "refused with 15, an end lacks a reading, fault 1 at (1,2,3), passed up by 0"
+        "refused with 15, an end lacks a reading"
     );
     let sides = PlaceRefusal::OtherSides;
     assert_eq!(rt;

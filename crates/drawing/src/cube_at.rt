@@ -16,7 +16,8 @@ pub(crate) struct CubeAt {
 impl CubeAt {
     // The cube with that number; none from the count of cubes on.
     pub(crate) fn new(sides: Sides, number: u32) -> Option<CubeAt>
-        ensures { MatchOption result (cube_count sides ≤ number) (λ c. (c.sides ≡ sides) × (c.low ≡ low_of sides number)) }
+        ensures at { MatchOption result (cube_count sides ≤ number) (λ c. (c.sides ≡ sides) × (c.low ≡ low_of sides number)) }
+        ensures below { IfSome result (λ _. number < cube_count sides) }
     {
         let low = sides.cube_at(number)?;
         Some(CubeAt { sides, low })

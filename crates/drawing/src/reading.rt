@@ -1,5 +1,5 @@
 // The mask of a cube, read off a scan.
-ghost use Rattle.std.specs.Prelude.{◌<◌, ◌≤◌, MatchOption};
+ghost use Rattle.std.specs.Prelude.{◌<◌, ◌≤◌, IfSome, MatchOption};
 ghost use Rattle.drawing.specs.Readings.{Beside, CubeRead, VoxelRead};
 ghost use Rattle.grid.specs.Cubes.{cube_count};
 ghost use Rattle.surface.specs.Places.{low_of, voxel_at};
@@ -59,7 +59,8 @@ impl CubeAt {
 
 // The mask of the cube with that number, or the first of its voxels that lacks a reading; none from the count of cubes on.
 pub fn cube_mask<S: Scan>(scan: &S, test: SolidTest, number: u32) -> Option<Result<Mask, Lacking>>
-    ensures { MatchOption result (cube_count (S.Scan.means scan.now).sides ≤ number) (λ a. CubeRead test (S.Scan.means scan.now) (low_of (S.Scan.means scan.now).sides number) a) }
+    ensures read { MatchOption result (cube_count (S.Scan.means scan.now).sides ≤ number) (λ a. CubeRead test (S.Scan.means scan.now) (low_of (S.Scan.means scan.now).sides number) a) }
+    ensures below { IfSome result (λ _. number < cube_count (S.Scan.means scan.now).sides) }
 {
     let cube = CubeAt::new(scan.sides(), number)?;
     Some(cube.mask(scan, test, None))

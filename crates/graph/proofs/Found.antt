@@ -1,9 +1,9 @@
 -- Loops found link by link. Assumes nothing.
-use Rattle.std.proofs.Common.{◌≡◌, ℕ, suc, ◌+◌, ◌<◌, ◌≤◌, Bool, true, false, cond, eqb, List, [], ◌∷◌, ◌++◌, map, get_or, drop, sym, ap, ◌∙◌, append_assoc, append-nil, add-one, eqb→eq, drop-cons}
-use Rattle.std.proofs.lemmas.List.{drop_all, map_push}
+use Rattle.std.proofs.Common.{◌≡◌, ℕ, suc, ◌+◌, ◌<◌, Bool, true, false, cond, eqb, List, [], ◌∷◌, ◌++◌, map, get_or, drop, ap, ◌∙◌, append_assoc, add-one, eqb→eq, drop-cons}
+use Rattle.std.proofs.lemmas.List.{map_push}
 use Rattle.std.specs.List.{filter}
 use Rattle.cube.specs.Cube.{Kinds, crossing, link_numbers}
-use Rattle.cube.specs.Loops.{loop_from, lowest, loops_of}
+use Rattle.cube.specs.Loops.{loop_from, lowest}
 use Rattle.cube.proofs.Masks.{at}
 
 module _ (k : Kinds) (es : List (ℕ × ℕ)) where
@@ -42,10 +42,6 @@ module _ (k : Kinds) (es : List (ℕ × ℕ)) where
   -- the lowest corner of a loop
   pub past_lowest : (i : ℕ) → i < 12 → crossing k i ≡ true → lowest es i ≡ true → loops_past i ≡ loop_from es i ∷ loops_past (i + 1)
   past_lowest i h e low = corner_here i h e ∙ ap (kept i) low
-
-  -- all links seen
-  pub past_all : (i : ℕ) (xs : List (List ℕ)) → 12 ≤ i → xs ++ loops_past i ≡ loops_of k es → xs ≡ loops_of k es
-  past_all i xs h inv = sym (append-nil xs) ∙ sym (ap (λ ls. xs ++ loops_at ls) (drop_all i link_numbers h)) ∙ inv
 
 -- One list more, read off what holds it.
 pub push_read : {V : Type 0} (f : V → List ℕ) (xs : List V) (v : V) (rest : List (List ℕ)) → map f (xs ++ (v ∷ [])) ++ rest ≡ map f xs ++ (f v ∷ rest)

@@ -1,2 +1,3 @@
+pub mod Laws
 pub mod Solids
 pub mod Successors

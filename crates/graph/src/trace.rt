@@ -2,7 +2,6 @@
 ghost use Rattle.std.specs.Prelude.{◌≡◌, ◌<◌, map, IfOk, vec_items, nat_le};
 ghost use Rattle.std.specs.List.{list_all};
 ghost use Rattle.cube.specs.Cube.{kinds};
-ghost use Rattle.cube.specs.Laws.{Looped};
 ghost use Rattle.cube.specs.Loops.{next, loop_from, loops as the-loops};
 ghost use Rattle.graph.specs.Solids.{kinds_of, edges_of};
 ghost use Rattle.graph.specs.Successors.{ahead, by_walks, Leads};
@@ -91,8 +90,7 @@ fn none_below(corners: &[u8], link: u8) -> bool
 
 // The loops of a cube's graph, each from its lowest link along its direction, in the order of these: links are numbers.
 pub fn loops(heap: Global, mask: Mask, s: Connectedness) -> Result<Vec<Vec<u8>>, AllocError>
-    ensures value { IfOk result (λ v. map vec_items v.items ≡ the-loops s (kinds mask.0)) }
-    ensures laws { IfOk result (λ v. Looped (kinds mask.0) (map vec_items v.items)) }
+    ensures { IfOk result (λ v. map vec_items v.items ≡ the-loops s (kinds mask.0)) }
 {
     let solid = Solid {
         mask,

@@ -20,18 +20,22 @@ pub record Meaning : Type 0 where
 abbrev pub Voxelwise : Answer → Type 0
 Voxelwise a = MatchResult a (λ reading. reading ≤ 65534) (λ f. f.cause ≡ NoReading)
 
--- What every scan owes: there is a fault just where nothing was measured and beyond the sides,
--- and a place outside is the scan's own fault at that place.
+-- A place outside a scan answers with a fault that says so.
+abbrev pub FaultsOutside : Answer → Type 0
+FaultsOutside a = MatchResult a (λ reading. ⊥) (λ f. f.cause ≡ Outside)
+
+-- What every scan owes: there is a fault just where nothing was measured and beyond the sides, and its cause
+-- says which. The place and the count that it tells are left to each scan, since it may pass another one's fault up.
 pub record Lawful (m : Meaning) : Type 0 where
   pub inside : (v : Voxel) → Holds m.sides v → Voxelwise (m.at v)
-  pub outside : (v : Voxel) → (Holds m.sides v → ⊥) → m.at v ≡ Err (own_fault Outside v)
+  pub outside : (v : Voxel) → (Holds m.sides v → ⊥) → FaultsOutside (m.at v)
 
 -- What an answer tells of a place, whatever the scan: a reading of at most 65,534 at a voxel of the scan,
--- a voxel of the scan that has no reading, or the scan's own fault at a place outside.
+-- a voxel of the scan that has no reading, or a place outside.
 abbrev pub Told : Sides → Voxel → Answer → Type 0
 Told s v a =
     MatchResult a (λ reading. Holds s v × (reading ≤ 65534))
-    (λ f. (Holds s v × (f.cause ≡ NoReading)) ⊎ ((Holds s v → ⊥) × (f ≡ own_fault Outside v)))
+    (λ f. (Holds s v × (f.cause ≡ NoReading)) ⊎ ((Holds s v → ⊥) × (f.cause ≡ Outside)))
 
 -- Whether sides hold a voxel, as a test.
 abbrev pub held : Sides → Voxel → Bool

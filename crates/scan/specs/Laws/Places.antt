@@ -6,7 +6,7 @@ use Rattle.grid.specs.Voxels.{Holds}
 use Rattle.grid.specs.declared.sides.Sides.{Sides}
 use Rattle.grid.specs.declared.voxel.Voxel.{Voxel}
 use Rattle.scan.specs.Faults.{own_fault}
-use Rattle.scan.specs.Meaning.{Answer, Meaning, Told, Voxelwise, Lawful, held, or_outside, scan_of}
+use Rattle.scan.specs.Meaning.{Answer, FaultsOutside, Meaning, Told, Voxelwise, Lawful, held, or_outside, scan_of}
 use Rattle.scan.specs.declared.fault.Cause.TheVariants.{Outside}
 
 pub held_true : (s : Sides) (v : Voxel) → held s v ≡ true → Holds s v
@@ -37,7 +37,7 @@ module _ (s : Sides) (answers : Voxel → Answer) where
   pub scan_lawful : ((v : Voxel) → Holds s v → Voxelwise (answers v)) → Lawful (scan_of s answers)
   scan_lawful each = record {
     inside = λ v h. subst Voxelwise (sym (scan_inside v h)) (each v h);
-    outside = scan_outside;
+    outside = λ v none. subst FaultsOutside (sym (scan_outside v none)) refl;
   }
 
 -- what a lawful scan answers tells where the place lies
@@ -45,12 +45,16 @@ pub lawful_told : (m : Meaning) → Lawful m → (v : Voxel) → Told m.sides v 
 lawful_told m law v =
     elim (cases_Bool (held m.sides v)) [
       | inl e ↦ at_voxel m.sides v (m.at v) (held_true m.sides v e) (law.inside v (held_true m.sides v e))
-      | inr e ↦ subst (Told m.sides v) (sym (law.outside v (off e))) (inr (off e, refl))
+      | inr e ↦ past m.sides v (m.at v) (off e) (law.outside v (off e))
     ]
   where
     at_voxel : (s : Sides) (w : Voxel) (a : Answer) → Holds s w → Voxelwise a → Told s w a
     at_voxel s w (Ok reading) h l = (h, l)
     at_voxel s w (Err f) h l = inl (h, l)
+
+    past : (s : Sides) (w : Voxel) (a : Answer) → (Holds s w → ⊥) → FaultsOutside a → Told s w a
+    past s w (Ok reading) none h = absurd h
+    past s w (Err f) none h = inr (none, h)
 
     off : held m.sides v ≡ false → Holds m.sides v → ⊥
     off e h = both_ways (held m.sides v) e (true_held m.sides v h)

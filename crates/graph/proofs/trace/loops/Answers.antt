@@ -1,11 +1,9 @@
-use Rattle.std.proofs.Common.{◌≡◌, ◌+◌, leb, ◌∷◌, ◌++◌, map, vec_items, sym, refl, ap, ◌∙◌, subst}
+use Rattle.std.proofs.Common.{◌≡◌, ◌+◌, leb, ◌∷◌, ◌++◌, map, vec_items, sym, refl, ap, ◌∙◌}
 use Rattle.std.specs.List.{list_all}
 use Rattle.cube.specs.Cube.{kinds}
 use Rattle.cube.specs.Graph.{graph}
-use Rattle.cube.specs.Laws.{Looped}
 use Rattle.cube.specs.Loops.{loop_from}
-use Rattle.graph.proofs.Found.{loops_past, past_level, past_higher, past_lowest, past_all, push_read, read_on}
-use Rattle.graph.proofs.Looped.{looped}
+use Rattle.graph.proofs.Found.{loops_past, past_level, past_higher, past_lowest, push_read, read_on}
 use Rattle.graph.proofs.trace.loops.Goals as goal
 use Rattle.graph.proofs.trace.loops.Goals.{then-carries_corner+in_ok-corners+then-none_below+in_ok-push, then-carries_corner+in_ok-corners+else-none_below, else-carries_corner}
 
@@ -34,10 +32,3 @@ loop-link-preserved c =
           let next = past_level k es i h (sym cross ∙ w.if-carries_corner.false) in
           read_on vec_items vec_items (loops_past k es (i + 1)) w.found-is refl (ap (λ ls. map vec_items found ++ ls) (sym next) ∙ c.loop-link.invariant)
     ]
-
-pub returns-clause-laws : goal.returns-clause-laws
-returns-clause-laws c =
-    let k = kinds c.args.mask.0 in
-    let es = graph c.args.s k in
-    let all = past_all k es c.loop-link.link (map vec_items (vec_items c.loop-link.found)) c.loop-link-test.false c.loop-link.invariant in
-    subst (Looped k) (sym all) (looped c.args.s k)

@@ -11,7 +11,7 @@ use Rattle.drawing.proofs.drawing.Drawing.stretch.Goals as goal
 pub loop-number-init : goal.loop-number-init
 loop-number-init g c = record {
   reached = reached_none g.T.Tray.lawful (g.S.Scan.means c.args.scan.now) c.args.self.now c.args.tray.now;
-  next = c.new-next.ensures;
+  next = c.new-next.ensures.at;
   beside = none_beside c.args.self.now.test (g.S.Scan.means c.args.scan.now) c.new-next.result;
 }
 
