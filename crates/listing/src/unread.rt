@@ -1,20 +1,21 @@
 // Why an input is not read.
-ghost use Rattle.listing.specs.Refusals.{refusal_number, told_by, unread_text};
+ghost use Rattle.listing.specs.Refusals.{refusal_number, told_by, unread_line, unread_text};
 ghost use Rattle.listing.specs.declared.unread.Unread.TheVariants.{Memory};
 ghost use Rattle.std.specs.Prelude.{◌≡◌, Some};
 
+use crate::closing_lines::refusal_line;
 use std::alloc::{AllocError, AllocFailed};
 use std::error::Error;
 use std::fmt;
 
-// What stands against an input, in the order in which it is looked at; memory may lack at any reading.
+// What stands against an input, in the order in which it is looked at; memory comes last, for an input that is in form.
 #[derive(Clone, Copy, PartialEq, Eq, Debug)]
 pub enum Unread {
     // It is longer than 32,768 bytes.
     TooLong,
     // This line, counted from 1, is the first out of form.
     Line(u32),
-    // There is no memory for the readings.
+    // There is no memory for the readings, or for the output.
     Memory,
 }
 
@@ -54,6 +55,13 @@ impl Unread {
             Unread::Line(line) => line,
             Unread::TooLong | Unread::Memory => 0,
         }
+    }
+
+    // The line of the refusal; none where it is none, or where the line that it tells has more than eight digits.
+    pub fn line(self) -> Option<[u8; 14]>
+        ensures { result ≡ unread_line self }
+    {
+        refusal_line(self.refusal()?, self.told())
     }
 }
 
