@@ -1,11 +1,11 @@
 -- What is taken from a reader and what comes into a writer, step by step. Assumes nothing.
-use Rattle.std.proofs.Common.{◌≡◌, ℕ, ◌+◌, ◌-◌, ◌≤◌, List, ◌++◌, length, take, drop, Option, sym, ap, ◌∙◌, subst, arith, append_assoc, length-take-le, take-append-drop}
+use Rattle.std.proofs.Common.{◌≡◌, ℕ, ◌+◌, ◌-◌, ◌<◌, ◌≤◌, List, ◌++◌, length, take, drop, Option, sym, ap, ◌∙◌, subst, arith, append_assoc, length-take-le, take-append-drop}
 use borrow.Rule.Slice.PartMut.{put_mid, post_of}
 use Rattle.std.proofs.lemmas.List.{take-append-le, take_rest}
 use Rattle.std.proofs.Math.Seq.{take-append-add}
 use Rattle.std.proofs.KnownBytes.{Appends-trans, Consumes-kept, Consumes-trans}
 use Rattle.std.specs.Io.KnownBytes.{Appends, Consumes, Keeps}
-use Rattle.listing.specs.Streams.{TakesAtMost}
+use Rattle.listing.specs.Streams.{TakesFewer}
 
 -- The front of a list, and n elements more of what was put after it.
 take_more : (a k n : ℕ) (xs ys : List ℕ) → a ≤ length xs → n ≤ length ys → take (a + n) (put_mid a k xs ys) ≡ take a xs ++ take n ys
@@ -21,9 +21,9 @@ more_taken given between left a k n xs ys within fits first more =
     subst (Consumes given left) (sym (take_more a k n xs ys within fits)) (Consumes-trans given between left (take a xs) (take n ys) first more)
 
 -- A read that fails takes no more than was taken.
-pub no_more_taken : (given between left : Option (List ℕ)) (most a : ℕ) (xs : List ℕ) → a ≤ most → a ≤ length xs
-    → Consumes given between (take a xs) → Keeps between left → TakesAtMost most given left
-no_more_taken given between left most a xs small within first kept = record {
+pub no_more_taken : (given between left : Option (List ℕ)) (room a : ℕ) (xs : List ℕ) → a < room → a ≤ length xs
+    → Consumes given between (take a xs) → Keeps between left → TakesFewer room given left
+no_more_taken given between left room a xs small within first kept = record {
   taken = take a xs;
   few = omega (arith, length-take-le a xs within);
   parts = Consumes-kept given between left (take a xs) first kept;

@@ -27,4 +27,4 @@ unread_line Memory = None
 abbrev pub unread_text : Unread → List ℕ
 unread_text TooLong = codes "refused with 17, the input is over 32768 bytes"
 unread_text (Line k) = codes "refused with 18, line " ++ (decimal k ++ codes " is out of form")
-unread_text Memory = codes "no memory for the readings"
+unread_text Memory = codes "no memory for the readings or the output"

@@ -1,9 +1,11 @@
 -- What the program does between a reader and a writer, of which a clause may know the bytes. Assumes nothing.
-use Rattle.std.specs.Prelude.{◌≡◌, ℕ, ◌+◌, List, Ok, Err, Option, Result, IfSome, take}
+use Rattle.std.specs.Prelude.{◌≡◌, ◌≢◌, ℕ, ◌+◌, List, Ok, Err, Option, Result, IfSome, None, Some, codes, take}
+use Rattle.std.specs.IoError.{error_kind}
+use Rattle.std.specs.declared.io.ErrorKind.TheVariants.{Interrupted}
 use Rattle.std.specs.Io.KnownBytes.{Appends, Consumes, Keeps}
 use Rattle.listing.specs.Inputs.{Accepted, most_bytes}
 use Rattle.listing.specs.Listings.{Listing}
-use Rattle.listing.specs.Streams.{FrontWritten, TakesAtMost}
+use Rattle.listing.specs.Streams.{FrontWritten, TakesFewer}
 use Rattle.listing.specs.declared.header.Header.{Header}
 use Rattle.listing.specs.declared.outcome.Outcome.{Outcome}
 use Rattle.listing.specs.declared.run_error.RunError.{RunError}
@@ -51,9 +53,16 @@ Answered input held holds (Err Memory) = OutputLacking input held holds
 Answered input held holds (Err (Reading e)) = ⊥
 Answered input held holds (Err (Writing e)) = OutputBroken input held holds
 
--- What was read before reading fails is within the limit, and nothing is written.
+-- Where reading fails, less than the limit was taken, and nothing is written.
 abbrev pub ReadFailed : Option (List ℕ) → Option (List ℕ) → Option (List ℕ) → Option (List ℕ) → Type 0
-ReadFailed given left held holds = TakesAtMost read_bytes given left × Keeps held holds
+ReadFailed given left held holds = TakesFewer read_bytes given left × Keeps held holds
+
+-- An interruption is no failure: what was interrupted is tried again.
+abbrev pub Uninterrupted : Result Outcome RunError → Type 0
+Uninterrupted (Ok outcome) = Unit {0}
+Uninterrupted (Err Memory) = Unit {0}
+Uninterrupted (Err (Reading e)) = error_kind e ≢ Interrupted
+Uninterrupted (Err (Writing e)) = error_kind e ≢ Interrupted
 
 -- An input is read, and answered.
 abbrev pub ReadAnswered : Option (List ℕ) → Option (List ℕ) → Option (List ℕ) → Option (List ℕ) → Result Outcome RunError → Type 0
@@ -65,3 +74,9 @@ Ran given left held holds (Ok outcome) = ReadAnswered given left held holds (Ok 
 Ran given left held holds (Err Memory) = ReadAnswered given left held holds (Err Memory)
 Ran given left held holds (Err (Reading e)) = ReadFailed given left held holds
 Ran given left held holds (Err (Writing e)) = ReadAnswered given left held holds (Err (Writing e))
+
+-- What is printed of want of memory; the text of another failure is partly the system's.
+abbrev pub run_error_text : RunError → Option (List ℕ)
+run_error_text Memory = Some (codes "no memory for the readings or the output")
+run_error_text (Reading e) = None
+run_error_text (Writing e) = None

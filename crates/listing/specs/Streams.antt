@@ -2,17 +2,17 @@
 use Rattle.std.specs.Prelude.{◌≡◌, ◌≢◌, ℕ, ◌<◌, ◌≤◌, List, [], ◌++◌, length, take, Ok, Err, Option, Result}
 use Rattle.std.specs.Io.KnownBytes.{Appends, Consumes, IsAtEnd}
 
--- No more bytes than these are taken from a reader; where its bytes are known, what is taken and what is left are what it had.
-pub record TakesAtMost (most : ℕ) (given left : Option (List ℕ)) : Type 0 where
+-- Fewer bytes than these are taken from a reader; where its bytes are known, what is taken and then what is left are what it had.
+pub record TakesFewer (room : ℕ) (given left : Option (List ℕ)) : Type 0 where
   pub taken : List ℕ
-  pub few : length taken ≤ most
+  pub few : length taken < room
   pub parts : Consumes given left taken
 
--- A buffer is read into: what is taken stands at its front, and nothing is left unless it is full. Where reading fails, no more
--- was taken than the buffer has room for.
+-- A buffer is read into: what is taken stands at its front, and nothing is left unless it is full. Where reading fails, fewer
+-- bytes were taken than the buffer has room for.
 abbrev pub ReadInto : {E : Type 0} → Option (List ℕ) → Option (List ℕ) → Result ℕ E → List ℕ → Type 0
 ReadInto given left (Ok n) buffer = (n ≤ length buffer) × Consumes given left (take n buffer) × (n < length buffer → IsAtEnd left)
-ReadInto given left (Err e) buffer = TakesAtMost (length buffer) given left
+ReadInto given left (Err e) buffer = TakesFewer (length buffer) given left
 
 -- Only a front of an output, or nothing of it, came behind what a writer held.
 pub record FrontWritten (held holds : Option (List ℕ)) (output : List ℕ) : Type 0 where

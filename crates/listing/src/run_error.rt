@@ -1,4 +1,6 @@
 // Why a run gives no whole output.
+ghost use Rattle.listing.specs.Running.{run_error_text};
+
 use std::error::Error;
 use std::{fmt, io};
 
@@ -14,6 +16,8 @@ pub enum RunError {
 }
 
 impl fmt::Display for RunError {
+    ghost output = { run_error_text };
+
     fn fmt<W: fmt::Write>(&self, f: &mut fmt::Formatter<W>) -> fmt::Result {
         match self {
             RunError::Memory => write!(f, "no memory for the readings or the output"),

@@ -1,5 +1,5 @@
 // The work of the program: from the bytes of a reader to those of a writer.
-ghost use Rattle.listing.specs.Running.{Answered, Ran, Written};
+ghost use Rattle.listing.specs.Running.{Answered, Ran, Uninterrupted, Written};
 
 use crate::input::LIMIT;
 use crate::outcome::Outcome;
@@ -17,7 +17,8 @@ const BYTES: usize = LIMIT + 1;
 // are taken from the reader. Refused only where memory, reading or writing fails: nothing is written where it is not writing
 // that fails, and else a front of the output.
 pub fn run<R: Read, W: Write>(heap: Global, from: &mut R, to: &mut W) -> Result<Outcome, RunError>
-    ensures { Ran (R.remaining from.old) (R.remaining from.new) (W.contents to.old) (W.contents to.new) result }
+    ensures bytes { Ran (R.remaining from.old) (R.remaining from.new) (W.contents to.old) (W.contents to.new) result }
+    ensures retried { Uninterrupted result }
 {
     let mut buffer = [0; BYTES];
     match read_into(from, &mut buffer) {
@@ -28,20 +29,22 @@ pub fn run<R: Read, W: Write>(heap: Global, from: &mut R, to: &mut W) -> Result<
 
 // Writes the output of an input, or the line of the refusal of one that is not read.
 fn answer<W: Write>(heap: Global, input: &[u8], to: &mut W) -> Result<Outcome, RunError>
-    ensures { Answered input.now (W.contents to.old) (W.contents to.new) result }
+    ensures bytes { Answered input.now (W.contents to.old) (W.contents to.new) result }
+    ensures retried { Uninterrupted result }
 {
     match listing(heap, input) {
-        Ok(output) => write(output.bytes.as_slice(), output.outcome, to),
+        Ok(output) => write_output(output.bytes.as_slice(), output.outcome, to),
         Err(unread) => match unread.line() {
-            Some(line) => write(&line, Outcome::Refused, to),
+            Some(line) => write_output(&line, Outcome::Refused, to),
             None => Err(RunError::Memory),
         },
     }
 }
 
 // Writes the bytes of an output, and answers how it ends.
-fn write<W: Write>(bytes: &[u8], outcome: Outcome, to: &mut W) -> Result<Outcome, RunError>
-    ensures { Written bytes.now outcome (W.contents to.old) (W.contents to.new) result }
+fn write_output<W: Write>(bytes: &[u8], outcome: Outcome, to: &mut W) -> Result<Outcome, RunError>
+    ensures bytes { Written bytes.now outcome (W.contents to.old) (W.contents to.new) result }
+    ensures retried { Uninterrupted result }
 {
     match write_whole(to, bytes) {
         Ok(()) => Ok(outcome),

@@ -4,7 +4,7 @@ ghost use Rattle.listing.specs.declared.unread.Unread.TheVariants.{Memory};
 ghost use Rattle.std.specs.Prelude.{◌≡◌, Some};
 
 use crate::closing_lines::refusal_line;
-use std::alloc::{AllocError, AllocFailed};
+use std::alloc::AllocError;
 use std::error::Error;
 use std::fmt;
 
@@ -23,14 +23,6 @@ impl From<AllocError> for Unread {
     ghost from_gives = { λ _ unread. unread ≡ Memory };
 
     fn from(_error: AllocError) -> Unread {
-        Unread::Memory
-    }
-}
-
-impl<T: Drop> From<AllocFailed<T>> for Unread {
-    ghost from_gives = { λ _ unread. unread ≡ Memory };
-
-    fn from(_error: AllocFailed<T>) -> Unread {
         Unread::Memory
     }
 }
@@ -72,7 +64,7 @@ impl fmt::Display for Unread {
         match *self {
             Unread::TooLong => write!(f, "refused with 17, the input is over 32768 bytes"),
             Unread::Line(line) => write!(f, "refused with 18, line {line} is out of form"),
-            Unread::Memory => write!(f, "no memory for the readings"),
+            Unread::Memory => write!(f, "no memory for the readings or the output"),
         }
     }
 }
