@@ -11,7 +11,7 @@ use std::process::ExitCode;
 // standard error, and the status is then 1.
 fn main(rt: HostRuntime) -> anyhow::Result<ExitCode> {
     match env::args(&rt)?.nth(1) {
-        None => Ok(run(rt.alloc(), rt.stdin(), &mut rt.stdout())?.into()),
+        None => Ok(run(rt.alloc(), &mut rt.stdin(), &mut rt.stdout())?.into()),
         Some(argument) => usage::show(&rt, argument.as_str()),
     }
 }

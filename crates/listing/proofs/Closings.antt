@@ -1,5 +1,5 @@
 -- The last line of an output, after all that was drawn. Assumes nothing.
-use Rattle.std.proofs.Common.{◌≡◌, ℕ, ◌<◌, List, [], ◌++◌, map, length, Ok, Some, None, inl, inr, sym, ap, ◌∙◌, subst, ap₂, arith}
+use Rattle.std.proofs.Common.{◌≡◌, ℕ, ◌<◌, List, [], ◌++◌, map, length, Ok, Some, None, sym, ap, ◌∙◌, subst, ap₂, arith}
 use Rattle.grid.specs.Cubes.{cube_count}
 use Rattle.grid.specs.Voxels.{Holds, number_of}
 use Rattle.grid.specs.declared.sides.Sides.{Sides}
@@ -24,6 +24,7 @@ use Rattle.drawing.specs.declared.refusal.OpenRefusal.{OpenRefusal}
 use Rattle.drawing.specs.declared.refusal.OpenRefusal.TheVariants.{ThinSide, ZeroThreshold, NoPair, Lacking, Mixed}
 use Rattle.listing.specs.ClosingLines.{end_text, refusal_text}
 use Rattle.listing.specs.Listings.{BrokenOff, ClosedSurface, Finished, Lists, OfCubes}
+use Rattle.listing.specs.declared.outcome.Outcome.TheVariants as outcome
 use Rattle.listing.specs.Steps.{Adds, Begins, DrawnOut, OwnFaults, TellsInside}
 
 module _ (m : Meaning) where
@@ -109,11 +110,11 @@ module _ (m : Meaning) (o d : Drawing) (base out all : List ℕ) (none : base �
   added adds = subst (λ (l : List ℕ). Adds m o d l out) none adds
 
   -- The output of a scan that is open and was drawn out, where it ends,
-  pub lists_end : DrawnOut m o d None base out → all ≡ out ++ end_text d.cubes d.triangles → Lists m (Ok o) all
-  lists_end h text = inl (finished m o d out begun (added h.adds) all h.stops text)
+  pub lists_end : DrawnOut m o d None base out → all ≡ out ++ end_text d.cubes d.triangles → Lists m (Ok o) all outcome.Finished
+  lists_end h text = finished m o d out begun (added h.adds) all h.stops text
 
   -- and where it breaks off.
   pub lists_broken : (f : Fault) (s : Sides) → OwnFaults m → DrawnOut m o d (Some f) base out → s ≡ d.sides
-      → all ≡ out ++ refusal_text 11 (number_of s f.at) → Lists m (Ok o) all
+      → all ≡ out ++ refusal_text 11 (number_of s f.at) → Lists m (Ok o) all outcome.Refused
   lists_broken f s own h same text =
-      inr (broken_off m o d out begun (added h.adds) all f own h.stops.0 h.stops.1 (text ∙ ap (λ (x : Sides). out ++ refusal_text 11 (number_of x f.at)) same))
+      broken_off m o d out begun (added h.adds) all f own h.stops.0 h.stops.1 (text ∙ ap (λ (x : Sides). out ++ refusal_text 11 (number_of x f.at)) same)

@@ -91,15 +91,26 @@ input_told bytes j e =
     let line = header_line_is c.0 header read in
     out_after bytes c.0 c.1 header j found line (rows_told (header.ny * header.nz) header.nx 2 c.1 j line.writes_nx.low (header_told header j _ e2))))
 
+-- A header line that is cut off and read comes before the rows.
+pub input_rows : (bytes line more : List ℕ) (header : Header) → cut 10 bytes ≡ Some (line, more) → header_of_line line ≡ Some header → input_of bytes ≡ with_header header (rows_of (header.ny * header.nz) header.nx 2 more)
+unfolding input_of
+input_rows bytes line more header found read =
+    let Rest : Header → List ℕ → Result (Header × List ℕ) ℕ = λ g bs. with_header g (rows_of (g.ny * g.nz) g.nx 2 bs) in
+    ap (λ o. or_told 1 o (λ c. or_told 1 (header_of_line c.0) (λ g. Rest g c.1))) found
+    ∙ ap (λ o. or_told 1 o (λ g. Rest g more)) read
+
+-- What is told of the rows is told of the input.
+pub rows_untold : (header : Header) (rows : Result (List ℕ) ℕ) (whole : Result (Header × List ℕ) ℕ) (u : Unread) → whole ≡ with_header header rows → LineTold rows u → LineTold whole u
+rows_untold header rows whole TooLong e told = absurd told
+rows_untold header rows whole (Line k) e told = e ∙ ap (with_header header) told
+rows_untold header rows whole Memory e told = ((header, told.0), e ∙ ap (with_header header) told.1)
+
 -- What begins with a header line and rows is read so.
 begun_again : (bytes : List ℕ) (header : Header) (rows : List (List ℕ)) (rest : List ℕ) (m : ℕ) → Begun bytes header rows rest → header.ny * header.nz ≡ length rows + m → input_of bytes ≡ with_header header (behind_all (concat rows) (rows_of m header.nx (2 + length rows) rest))
-unfolding input_of
 begun_again bytes header rows rest m b count =
     let more = ended b.lines ++ rest in
     let found = ap (cut 10) (b.text ∙ ended_more b.first b.lines rest) ∙ cut_of 10 b.first more (header_lacks b.first header b.header_line) in
-    let Rest : Header → List ℕ → Result (Header × List ℕ) ℕ = λ g bs. with_header g (rows_of (g.ny * g.nz) g.nx 2 bs) in
-    ap (λ o. or_told 1 o (λ c. or_told 1 (header_of_line c.0) (λ g. Rest g c.1))) found
-    ∙ ap (λ o. or_told 1 o (λ g. Rest g more)) (header_line_again b.first header b.header_line)
+    input_rows bytes b.first more header found (header_line_again b.first header b.header_line)
     ∙ ap (with_header header) (rows_again header.nx 2 (header.ny * header.nz) m b.lines rows rest b.header_line.writes_nx.low count b.row_lines)
 
 -- What is listed is read.
@@ -165,4 +176,4 @@ pub read_told : {X : Type 0} (header : X → Header) (readings : X → List ℕ)
 read_told header readings bytes (Ok x) short e = (short, input_found bytes (header x, readings x) e)
 read_told header readings bytes (Err TooLong) short e = absurd e
 read_told header readings bytes (Err (Line k)) short e = (short, input_told bytes k e)
-read_told header readings bytes (Err Memory) short e = short
+read_told header readings bytes (Err Memory) short e = (e.0.0, e.0.1, (short, input_found bytes e.0 e.1))

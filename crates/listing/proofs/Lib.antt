@@ -6,7 +6,6 @@ pub mod CutLaws
 pub mod Cuts
 pub mod FieldLaws
 pub mod InputLaws
-pub mod LastLines
 pub mod LineLaws
 pub mod Numbers
 pub mod OneDraw
@@ -14,3 +13,4 @@ pub mod Outputs
 pub mod RowLaws
 pub mod RowSteps
 pub mod Streams
+pub mod Transfers

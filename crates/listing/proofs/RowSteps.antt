@@ -1,11 +1,10 @@
 -- Reading a row field by field, and the rows line by line. Assumes nothing.
 use Rattle.std.proofs.Common.{◌≡◌, ℕ, suc, ◌+◌, ◌-◌, ◌<◌, ◌≤◌, List, [], ◌∷◌, ◌++◌, length, Some, None, Option, Ok, Err, Result, sym, refl, ap, ◌∙◌, append_assoc, arith}
 use Rattle.std.proofs.lemmas.List.{append-nil}
-use Rattle.listing.specs.declared.unread.Unread.{Unread}
-use Rattle.listing.specs.declared.unread.Unread.TheVariants.{TooLong, Line, Memory}
 use Rattle.listing.specs.Cutting.{cut}
 use Rattle.listing.specs.Fields.{◌>>=◌, number_field, row_of, with_none}
-use Rattle.listing.specs.Lines.{LineTold, RowTold, behind, behind_all, or_told, row_of_line, rows_of}
+use Rattle.listing.specs.Rows.{Gains}
+use Rattle.listing.specs.Lines.{behind, behind_all, or_told, row_of_line, rows_of}
 
 -- One of the n steps is taken.
 left_after : (n i : ℕ) → i < n → n - i ≡ suc (n - (i + 1))
@@ -93,12 +92,20 @@ behind_err front k read whole told e = sym e ∙ ap (behind_all front) told
 pub behind_end : (front : List ℕ) (read whole : Result (List ℕ) ℕ) → read ≡ Ok [] → behind_all front read ≡ whole → whole ≡ Ok front
 behind_end front read whole told e = sym e ∙ ap (behind_all front) told ∙ ap Ok (append-nil front)
 
--- A row that is not read tells its line; where memory lacked, nothing is told.
-pub row_untold : (front after : List ℕ) (n i nx : ℕ) (bs line rest : List ℕ) (whole : Result (List ℕ) ℕ) (e : Unread) → i < n → cut 10 bs ≡ Some (line, rest) → RowTold (row_of_line nx line) (i + 2) front (Err e) after → behind_all front (rows_of (n - i) nx (i + 2) bs) ≡ whole → LineTold whole e
-row_untold front after n i nx bs line rest whole TooLong within found told e = absurd told
-row_untold front after n i nx bs line rest whole (Line k) within found told e =
-    rw told.0 (behind_err front (i + 2) _ whole (rows_none n i nx bs line rest within found told.1) e)
-row_untold front after n i nx bs line rest whole Memory within found told e = tt
+-- What comes behind readings comes behind those before them.
+pub gains_more : (a b c : Option (List ℕ)) (xs ys : List ℕ) → Gains a b xs → Gains b c ys → Gains a c (xs ++ ys)
+gains_more None None None xs ys p q = tt
+gains_more None None (Some zs) xs ys p q = absurd q
+gains_more None (Some y) c xs ys p q = absurd p
+gains_more (Some x) None None xs ys p q = tt
+gains_more (Some x) None (Some z) xs ys p q = absurd q
+gains_more (Some x) (Some y) None xs ys p q = tt
+gains_more (Some x) (Some y) (Some z) xs ys p q = q ∙ ap (λ l. l ++ ys) p ∙ append_assoc x xs ys
+
+-- What came behind none are the readings, where there are some.
+pub gains_all : (k : Option (List ℕ)) (xs readings : List ℕ) → Gains (Some []) k xs → Some readings ≡ k → xs ≡ readings
+gains_all None xs readings gained e = absurd (cc)
+gains_all (Some ys) xs readings gained e = let same : readings ≡ ys = cc in sym (same ∙ gained)
 
 -- Lines are cut at line feeds.
 pub at_feed : (mark : ℕ) (bs : List ℕ) (r : Option (List ℕ × List ℕ)) → mark ≡ 10 → cut mark bs ≡ r → cut 10 bs ≡ r

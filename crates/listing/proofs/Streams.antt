@@ -1,78 +1,77 @@
--- How an output ends, and the output of an input of which no more than a front was read. Assumes nothing.
-use Rattle.std.proofs.Common.{◌≡◌, ℕ, ◌<◌, ◌≤◌, ◌⊎◌, inl, inr, ⊎_elim, true, false, Bool, List, [], ◌++◌, length, take, Some, None, Option, Ok, Err, Result, IfSome, refl, sym, ◌∙◌, subst, arith}
-use Rattle.std.specs.Option.{option_map}
-use Rattle.std.specs.Io.KnownBytes.{Appends}
-use Rattle.std.specs.Io.Take.{take_remaining}
-use Rattle.std.specs.declared.io.traits.Take.{Take}
+-- The output of an input of which no more than a front was read. Assumes nothing.
+use Rattle.std.proofs.Common.{◌≡◌, ℕ, ◌<◌, ◌≤◌, ⊎_elim, List, [], ◌++◌, length, take, Some, None, Option, Ok, Err, Result, refl, sym, ap, ◌∙◌, subst, arith, append-nil}
+use Rattle.std.specs.Io.KnownBytes.{Consumes, IsAtEnd}
 use Rattle.std.proofs.lemmas.Bool.Decides.{leb_tells}
-use Rattle.std.proofs.lemmas.List.{length-take-le, take_all}
-use Rattle.scan.specs.Meaning.{Meaning}
-use Rattle.grid.specs.Cubes.{cube_count}
-use Rattle.grid.specs.Voxels.{number_of}
-use Rattle.tray.specs.Texts.{text_of}
-use Rattle.drawing.specs.Opening.{number}
-use Rattle.drawing.specs.declared.drawing.Drawing.{Drawing}
-use Rattle.drawing.specs.declared.refusal.OpenRefusal.{OpenRefusal}
-use Rattle.listing.specs.ClosingLines.{EndsFinished, EndsRefused}
-use Rattle.listing.specs.Listings.{Listing, Lists, voxel_told}
-use Rattle.listing.specs.Running.{Ends, Ran}
-use Rattle.listing.specs.declared.running.Outcome.{Outcome}
+use Rattle.std.proofs.lemmas.List.{length-take-le, take_all, take-append-le}
+use Rattle.listing.specs.Inputs.{Accepted}
+use Rattle.listing.specs.Listings.{Listing}
+use Rattle.listing.specs.Running.{Answered, Ran, ReadAnswered, Written, read_bytes}
+use Rattle.listing.specs.declared.header.Header.{Header}
+use Rattle.listing.specs.declared.outcome.Outcome.{Outcome}
+use Rattle.listing.specs.declared.run_error.RunError.{RunError}
+use Rattle.listing.specs.declared.run_error.RunError.TheVariants.{Memory, Reading, Writing}
 use Rattle.listing.proofs.InputLaws.{one_answer}
 
--- The output of a scan ends with the line of an end or with that of a refusal.
-lists_end : (m : Meaning) (opening : Result Drawing OpenRefusal) (out : List ℕ) → Lists m opening out → EndsFinished out ⊎ EndsRefused out
-lists_end m (Ok d) out (inl f) = inl (text_of f.triangles, cube_count d.sides, length f.triangles, f.text)
-lists_end m (Ok d) out (inr b) = inr (text_of b.triangles, 11, number_of d.sides b.voxel, b.text)
-lists_end m (Err e) out text = inr ([], number e, voxel_told m.sides e, text)
+module _ (bytes : List ℕ) where
+  -- An input whose front is too long is too long itself.
+  listing_of_front : (out : List ℕ) (how : Outcome) → Listing (take read_bytes bytes) out how → Listing bytes out how
+  listing_of_front out how l =
+      ⊎_elim (λ whole. subst (λ (bs : List ℕ). Listing bs out how) (take_all read_bytes bytes whole.1) l)
+      (λ long. record {
+        too_long = λ _. l.too_long (omega (arith, length-take-le read_bytes bytes (omega (arith, long.1))));
+        out_of_form = λ short k first. absurd (omega (arith, long.1));
+        listed = λ short header readings listed. absurd (omega (arith, long.1));
+        one = one_answer bytes;
+      })
+      (leb_tells (length bytes) read_bytes)
 
-module _ (bytes out : List ℕ) (l : Listing bytes out) where
-  short_ends : length bytes ≤ 32768 → EndsFinished out ⊎ EndsRefused out
-  short_ends short =
-      ⊎_elim (λ i. let scan = l.listed short i.0 i.1 i.2 in lists_end scan.scan scan.opening out scan.lists)
-      (λ f. inr ([], 18, f.0, l.out_of_form short f.0 f.1)) l.one.some
+  -- An input whose front is accepted is no longer than it.
+  accepted_of_front : (header : Header) (readings : List ℕ) → Accepted (take read_bytes bytes) header readings → Accepted bytes header readings
+  accepted_of_front header readings a =
+      ⊎_elim (λ whole. subst (λ (bs : List ℕ). Accepted bs header readings) (take_all read_bytes bytes whole.1) a)
+      (λ long. absurd (omega (arith, length-take-le read_bytes bytes (omega (arith, long.1)), a.0)))
+      (leb_tells (length bytes) read_bytes)
 
-  -- So does that of any input.
-  pub ends : EndsFinished out ⊎ EndsRefused out
-  ends = ⊎_elim (λ short. short_ends short.1) (λ long. inr ([], 17, 0, l.too_long long.1)) (leb_tells (length bytes) 32768)
+  -- So what is answered of the front is answered of the input.
+  answered_of_front : (held holds : Option (List ℕ)) (r : Result Outcome RunError) → Answered (take read_bytes bytes) held holds r → Answered bytes held holds r
+  answered_of_front held holds (Ok outcome) a = record { output = a.output; listing = listing_of_front a.output outcome a.listing; written = a.written }
+  answered_of_front held holds (Err Memory) a = record { header = a.header; readings = a.readings; accepted = accepted_of_front a.header a.readings a.accepted; kept = a.kept }
+  answered_of_front held holds (Err (Reading e)) a = absurd a
+  answered_of_front held holds (Err (Writing e)) a = record { output = a.output; outcome = a.outcome; listing = listing_of_front a.output a.outcome a.listing; written = a.written }
 
-  -- What is said not to end with the one ends with the other.
-  pub refused : (r : Bool) → r ≡ true → (EndsFinished out → r ≡ false) → EndsRefused out
-  refused r is unless = ⊎_elim (λ f. absurd (let same : true ≡ false = sym is ∙ unless f in cc)) (λ h. h) ends
+-- Writing an output of an input answers it.
+pub written_answered : (input output : List ℕ) (how : Outcome) (held holds : Option (List ℕ)) (r : Result Outcome RunError) → Listing input output how
+    → Written output how held holds r → Answered input held holds r
+written_answered input output how held holds (Ok outcome) l w = record { output = output; listing = subst (λ (o : Outcome). Listing input output o) (sym w.0) l; written = w.1 }
+written_answered input output how held holds (Err Memory) l w = absurd w
+written_answered input output how held holds (Err (Reading e)) l w = absurd w
+written_answered input output how held holds (Err (Writing e)) l w = record { output = output; outcome = how; listing = l; written = w }
 
-  pub finished : (r : Bool) → r ≡ false → (EndsRefused out → r ≡ true) → EndsFinished out
-  finished r is unless = ⊎_elim (λ f. f) (λ h. absurd (let same : true ≡ false = sym (unless h) ∙ is in cc)) ends
+-- What a reader had begins with what was taken of it, up to the limit.
+front_taken : (xs ys taken : List ℕ) → xs ≡ taken ++ ys → length taken ≤ read_bytes → (length taken < read_bytes → ys ≡ []) → take read_bytes xs ≡ taken
+front_taken xs ys taken parts few end =
+    ⊎_elim
+    (λ full. ap (take read_bytes) parts ∙ take-append-le read_bytes taken ys full.1 ∙ take_all read_bytes taken few)
+    (λ short.
+    let all = parts ∙ ap (λ l. taken ++ l) (end (omega (arith, short.1))) ∙ append-nil taken in
+    ap (take read_bytes) all ∙ take_all read_bytes taken few)
+    (leb_tells read_bytes (length taken))
 
--- An input whose front is too long is too long itself.
-of_front : (n : ℕ) (bytes out : List ℕ) → 32768 < n → Listing (take n bytes) out → Listing bytes out
-of_front n bytes out above l =
-    ⊎_elim (λ whole. subst (λ (bs : List ℕ). Listing bs out) (take_all n bytes whole.1) l)
-    (λ long. record {
-      too_long = λ _. l.too_long (omega (arith, length-take-le n bytes (omega (arith, long.1))));
-      out_of_form = λ short k first. absurd (omega (arith, long.1));
-      listed = λ short header readings listed. absurd (omega (arith, long.1));
-      one = one_answer bytes;
-    })
-    (leb_tells (length bytes) n)
+-- A buffer was read into, and what stands in front was answered: so is the input of the reader.
+pub read_answered : (given left held holds : Option (List ℕ)) (taken : List ℕ) (r : Result Outcome RunError) → Consumes given left taken → length taken ≤ read_bytes
+    → (length taken < read_bytes → IsAtEnd left) → Answered taken held holds r → ReadAnswered given left held holds r
+read_answered None left held holds taken r parts few end a = (taken, record { whole = tt; taken = tt }, a)
+read_answered (Some xs) None held holds taken r parts few end a = absurd parts
+read_answered (Some xs) (Some ys) held holds taken r parts few end a =
+    let front = front_taken xs ys taken parts few end in (
+      xs,
+      record { whole = refl; taken = parts ∙ ap (λ l. l ++ ys) (sym front) },
+      answered_of_front xs held holds r (subst (λ (bs : List ℕ). Answered bs held holds r) (sym front) a),
+    )
 
-module _ (n : ℕ) (above : 32768 < n) where
-  -- The output of what was read, up to a limit past that of an input, is that of all that the reader had, where that is known.
-  of_reader : (given : Option (List ℕ)) (read out : List ℕ) → IfSome (option_map (take n) given) (λ bytes. read ≡ bytes) → Listing read out
-      → (input : List ℕ) × IfSome given (λ bytes. input ≡ bytes) × Listing input out
-  of_reader None read out none l = (read, tt, l)
-  of_reader (Some bytes) read out same l =
-      (bytes, refl, of_front n bytes out above (subst (λ (bs : List ℕ). Listing bs out) same l))
-
--- What was read behind nothing is what stands at the front of what the reader had.
-taken : {R : Type 0} (remaining : R → Option (List ℕ)) (t : Take R) (from : R) (start read : List ℕ) → t.inner ≡ from → start ≡ []
-    → IfSome (take_remaining remaining t) (λ xs. read ≡ start ++ xs) → IfSome (option_map (take t.limit) (remaining from)) (λ bytes. read ≡ bytes)
-taken remaining t from start read inner empty h =
-    subst (λ s. IfSome (option_map (take t.limit) (remaining from)) (λ xs. read ≡ s ++ xs)) empty
-    (subst (λ r. IfSome (option_map (take t.limit) (remaining r)) (λ xs. read ≡ start ++ xs)) inner h)
-
--- Reading up to the limit, listing what was read and writing it is the work of the program.
-pub ran : {R : Type 0} (remaining : R → Option (List ℕ)) (t : Take R) (from : R) (start read out : List ℕ) (held holds : Option (List ℕ)) (outcome : Outcome)
-    → 32768 < t.limit → t.inner ≡ from → start ≡ [] → IfSome (take_remaining remaining t) (λ xs. read ≡ start ++ xs)
-    → Listing read out → Appends held holds out → Ends outcome out → Ran (remaining from) held holds outcome
-ran remaining t from start read out held holds outcome above inner empty h l written ends =
-    let whole = of_reader t.limit above (remaining from) read out (taken remaining t from start read inner empty h) l in
-    record { input = whole.0; whole = whole.1; output = out; listing = whole.2; written = written; ends = ends }
+pub ran : (given left held holds : Option (List ℕ)) (taken : List ℕ) (r : Result Outcome RunError) → Consumes given left taken → length taken ≤ read_bytes
+    → (length taken < read_bytes → IsAtEnd left) → Answered taken held holds r → Ran given left held holds r
+ran given left held holds taken (Ok outcome) parts few end a = read_answered given left held holds taken (Ok outcome) parts few end a
+ran given left held holds taken (Err Memory) parts few end a = read_answered given left held holds taken (Err Memory) parts few end a
+ran given left held holds taken (Err (Reading e)) parts few end a = absurd a
+ran given left held holds taken (Err (Writing e)) parts few end a = read_answered given left held holds taken (Err (Writing e)) parts few end a

@@ -99,11 +99,11 @@ most_bytes = 32768
 abbrev pub Accepted : List ℕ → Header → List ℕ → Type 0
 Accepted bytes header readings = (length bytes ≤ most_bytes) × Listed bytes header readings
 
--- Longer ones are told as too long, others by the first line out of form; want of memory tells nothing but that they are not too long.
+-- Longer ones are told as too long, others by the first line out of form; want of memory is told of accepted inputs alone.
 abbrev pub Refused : List ℕ → Unread → Type 0
 Refused bytes TooLong = most_bytes < length bytes
 Refused bytes (Line k) = (length bytes ≤ most_bytes) × FirstOut bytes k
-Refused bytes Memory = length bytes ≤ most_bytes
+Refused bytes Memory = (header : Header) × (readings : List ℕ) × Accepted bytes header readings
 
 -- Bytes are an input in one way, or have one first line out of form, and never both.
 pub record OneAnswer (bytes : List ℕ) : Type 0 where

@@ -5,6 +5,9 @@ pub mod Inputs
 pub mod Lines
 pub mod Listings
 pub mod Numerals
+pub mod Outcomes
 pub mod Refusals
+pub mod Rows
 pub mod Running
 pub mod Steps
+pub mod Streams

@@ -27,16 +27,26 @@ row_rest [] = None
 row_rest (b ∷ []) = None
 row_rest (b ∷ c ∷ rest) = if c == 44 then row_named b rest else None
 
--- What the two kinds of line keep.
+-- The bytes that a line keeps, and those of each kind.
+abbrev pub line_bytes : lines.Line → List ℕ
+line_bytes (line.Header bytes) = bytes.now
+line_bytes (line.Row bytes) = bytes.now
+
 abbrev pub as_header : Option lines.Line → Option (List ℕ)
 as_header None = None
-as_header (Some (line.Header rest)) = Some rest.now
-as_header (Some (line.Row rest)) = None
+as_header (Some (line.Header bytes)) = Some bytes.now
+as_header (Some (line.Row bytes)) = None
 
 abbrev pub as_row : Option lines.Line → Option (List ℕ)
 as_row None = None
-as_row (Some (line.Header rest)) = None
-as_row (Some (line.Row rest)) = Some rest.now
+as_row (Some (line.Header bytes)) = None
+as_row (Some (line.Row bytes)) = Some bytes.now
+
+-- What follows the comma in bytes; nothing where there is none.
+abbrev pub rest_of : List ℕ → List ℕ
+rest_of [] = []
+rest_of (b ∷ []) = []
+rest_of (b ∷ c ∷ rest) = if c == 44 then rest else []
 
 -- The header that a line writes.
 unfoldable pub header_of_line : List ℕ → Option Header
@@ -49,13 +59,6 @@ row_of_line n bs = row_rest bs >>= λ rest. row_of n (pieces 44 rest)
 -- What is read, behind a front that is read already.
 abbrev pub behind : List ℕ → Option (List ℕ) → Option (List ℕ)
 behind front read = option_map (λ xs. front ++ xs) read
-
--- A row goes to the end of the readings, or is told by the number of its line; want of memory tells nothing.
-abbrev pub RowTold : Option (List ℕ) → ℕ → List ℕ → Result (Unit {0}) Unread → List ℕ → Type 0
-RowTold read number before (Ok done) after = behind before read ≡ Some after
-RowTold read number before (Err TooLong) after = ⊥
-RowTold read number before (Err (Line k)) after = (k ≡ number) × (read ≡ None)
-RowTold read number before (Err Memory) after = Unit {0}
 
 -- What is there is read on; where it lacks, the number is told.
 abbrev pub or_told : {A B : Type 0} → ℕ → Option A → (A → Result B ℕ) → Result B ℕ
@@ -72,11 +75,11 @@ rows_of zero nx number [] = Ok []
 rows_of zero nx number (b ∷ bs) = Err number
 rows_of (suc n) nx number bs = or_told number (cut 10 bs) (λ c. or_told number (row_of_line nx c.0) (λ row. behind_all row (rows_of n nx (number + 1) c.1)))
 
--- The first line out of form is told by its number; want of memory tells nothing.
+-- The first line out of form is told by its number; want of memory is told only where there is none.
 abbrev pub LineTold : {A : Type 0} → Result A ℕ → Unread → Type 0
 LineTold read TooLong = ⊥
 LineTold read (Line k) = read ≡ Err k
-LineTold read Memory = Unit {0}
+LineTold {A} read Memory = (x : A) × (read ≡ Ok x)
 
 abbrev pub with_header : Header → Result (List ℕ) ℕ → Result (Header × List ℕ) ℕ
 with_header header (Ok readings) = Ok (header, readings)

@@ -1,5 +1,5 @@
 -- The output of the program, for each input. Assumes nothing.
-use Rattle.std.specs.Prelude.{◌≡◌, ℕ, ◌<◌, ◌≤◌, ◌⊎◌, List, ◌++◌, map, length, Ok, Err, Result}
+use Rattle.std.specs.Prelude.{◌≡◌, ℕ, ◌<◌, ◌≤◌, List, ◌++◌, map, length, Ok, Err, Result}
 use Rattle.grid.specs.Cubes.{cube_count}
 use Rattle.grid.specs.Voxels.{number_of}
 use Rattle.grid.specs.declared.sides.Sides.{Sides}
@@ -20,8 +20,10 @@ use Rattle.drawing.specs.declared.drawing.Drawing.{Drawing}
 use Rattle.drawing.specs.declared.refusal.OpenRefusal.{OpenRefusal}
 use Rattle.drawing.specs.declared.refusal.OpenRefusal.TheVariants.{ThinSide, ZeroThreshold, NoPair, Lacking, Mixed}
 use Rattle.listing.specs.ClosingLines.{end_text, refusal_text}
-use Rattle.listing.specs.Inputs.{FirstOut, Listed, OneAnswer, most_bytes}
+use Rattle.listing.specs.Inputs.{Accepted, FirstOut, Listed, OneAnswer, most_bytes}
 use Rattle.listing.specs.declared.header.Header.{Header}
+use Rattle.listing.specs.declared.outcome.Outcome.{Outcome}
+use Rattle.listing.specs.declared.outcome.Outcome.TheVariants as outcome
 
 -- Triangles are a closed surface: no directed edge is laid twice, and each is laid the other way too.
 pub record ClosedSurface (ts : List Triangle) : Type 0 where
@@ -60,27 +62,43 @@ voxel_told s NoPair = 0
 voxel_told s (Lacking v f) = number_of s v
 voxel_told s (Mixed v) = number_of s v
 
+-- An output that is a refusal alone, and is told as one.
+abbrev pub RefusedWith : ℕ → ℕ → List ℕ → Outcome → Type 0
+RefusedWith number told out how = (out ≡ refusal_text number told) × (how ≡ outcome.Refused)
+
+-- The output of a scan that is open: it is told as finished just where it is, and as refused where it breaks off.
+abbrev pub EndsAs : Meaning → Drawing → List ℕ → Outcome → Type 0
+EndsAs m d out outcome.Finished = Finished m d out
+EndsAs m d out outcome.Refused = BrokenOff m d out
+
 -- The output of a scan that is opened, and of one that is not.
-abbrev pub Lists : Meaning → Result Drawing OpenRefusal → List ℕ → Type 0
-Lists m (Ok d) out = Finished m d out ⊎ BrokenOff m d out
-Lists m (Err e) out = out ≡ refusal_text (number e) (voxel_told m.sides e)
+abbrev pub Lists : Meaning → Result Drawing OpenRefusal → List ℕ → Outcome → Type 0
+Lists m (Ok d) out how = EndsAs m d out how
+Lists m (Err e) out how = RefusedWith (number e) (voxel_told m.sides e) out how
 
 -- The sides that a header has.
 abbrev pub sides_of : Header → Lengths
 sides_of header = record { x = header.nx; y = header.ny; z = header.nz }
 
 -- The output of a header and readings: that of the scan that shows these readings, opened as the header asks.
-pub record ScanLists (header : Header) (readings out : List ℕ) : Type 0 where
+pub record ScanLists (header : Header) (readings out : List ℕ) (how : Outcome) : Type 0 where
   pub scan : Meaning
   pub shows : ShowsValues scan (sides_of header) readings
   pub opening : Result Drawing OpenRefusal
   pub opened : Opened scan header.asked opening
-  pub lists : Lists scan opening out
+  pub lists : Lists scan opening out how
 
--- The output of the program. An input that is too long is refused with 17, and else the first line out of form with 18; any other
--- input has a header and readings, and their output. Just one of these is so of any bytes.
-pub record Listing (bytes out : List ℕ) : Type 0 where
-  pub too_long : most_bytes < length bytes → out ≡ refusal_text 17 0
-  pub out_of_form : length bytes ≤ most_bytes → (k : ℕ) → FirstOut bytes k → out ≡ refusal_text 18 k
-  pub listed : length bytes ≤ most_bytes → (header : Header) (readings : List ℕ) → Listed bytes header readings → ScanLists header readings out
+-- The output of an input that is accepted: that of its header and readings.
+pub record InputLists (bytes out : List ℕ) (how : Outcome) : Type 0 where
+  pub header : Header
+  pub readings : List ℕ
+  pub accepted : Accepted bytes header readings
+  pub lists : ScanLists header readings out how
+
+-- The output of the program, and how it is told to end. An input that is too long is refused with 17, and else the first line out
+-- of form with 18; any other input has a header and readings, and their output. Just one of these is so of any bytes.
+pub record Listing (bytes out : List ℕ) (how : Outcome) : Type 0 where
+  pub too_long : most_bytes < length bytes → RefusedWith 17 0 out how
+  pub out_of_form : length bytes ≤ most_bytes → (k : ℕ) → FirstOut bytes k → RefusedWith 18 k out how
+  pub listed : length bytes ≤ most_bytes → (header : Header) (readings : List ℕ) → Listed bytes header readings → ScanLists header readings out how
   pub one : OneAnswer bytes

@@ -1,49 +1,53 @@
 // The work of the program: from the bytes of a reader to those of a writer.
-ghost use Rattle.std.specs.Prelude.{◌≡◌, IfOk};
-ghost use Rattle.std.specs.Process.{exit_status};
-ghost use Rattle.listing.specs.Running.{Ran, status};
+ghost use Rattle.listing.specs.Running.{Answered, Ran, Uninterrupted, Written};
 
 use crate::input::LIMIT;
-use crate::last_line::is_refused;
+use crate::outcome::Outcome;
 use crate::output::listing;
+use crate::reading::read_into;
+use crate::run_error::RunError;
+use crate::writing::write_whole;
 use std::alloc::Global;
-use std::io::{self, Read, Write};
-use std::process::ExitCode;
+use std::io::{Read, Write};
 
-// How an output ends: with the line of an end, or with that of a refusal, which stands alone or after the triangles laid.
-#[derive(Clone, Copy, PartialEq, Eq, Debug)]
-pub enum Outcome {
-    Finished,
-    Refused,
-}
+// One byte more than an input may have, so that a longer one shows.
+const BYTES: usize = LIMIT + 1;
 
-// The exit status of the program: 0 after a finished list, 1 after a refusal.
-impl From<Outcome> for ExitCode {
-    ghost from_gives = { λ outcome code. exit_status code ≡ status outcome };
-
-    fn from(outcome: Outcome) -> ExitCode {
-        match outcome {
-            Outcome::Finished => ExitCode::SUCCESS,
-            Outcome::Refused => ExitCode::FAILURE,
-        }
+// Reads an input, writes its output behind what the writer holds, and answers how the output ends. No more than 32,769 bytes
+// are taken from the reader. Refused only where memory, reading or writing fails: nothing is written where it is not writing
+// that fails, and else a front of the output.
+pub fn run<R: Read, W: Write>(heap: Global, from: &mut R, to: &mut W) -> Result<Outcome, RunError>
+    ensures bytes { Ran (R.remaining from.old) (R.remaining from.new) (W.contents to.old) (W.contents to.new) result }
+    ensures retried { Uninterrupted result }
+{
+    let mut buffer = [0; BYTES];
+    match read_into(from, &mut buffer) {
+        Ok(count) => answer(heap, &buffer[..count], to),
+        Err(error) => Err(RunError::Reading(error)),
     }
 }
 
-// One byte more than an input may have, so that a longer one shows.
-const BYTES: u64 = LIMIT as u64 + 1;
-
-// Reads an input, writes its output behind what the writer holds, and answers how the output ends; refused only where memory,
-// reading or writing fails.
-pub fn run<R: Read + Drop, W: Write>(heap: Global, from: R, to: &mut W) -> io::Result<Outcome>
-    ensures { IfOk result (λ outcome. Ran (R.remaining from) (W.contents to.old) (W.contents to.new) outcome) }
+// Writes the output of an input, or the line of the refusal of one that is not read.
+fn answer<W: Write>(heap: Global, input: &[u8], to: &mut W) -> Result<Outcome, RunError>
+    ensures bytes { Answered input.now (W.contents to.old) (W.contents to.new) result }
+    ensures retried { Uninterrupted result }
 {
-    let mut input = Vec::new(heap);
-    from.take(BYTES).read_to_end(&mut input)?;
-    let output = listing(heap, input.as_slice())?;
-    to.write_all(output.as_slice())?;
-    if is_refused(output.as_slice()) {
-        Ok(Outcome::Refused)
-    } else {
-        Ok(Outcome::Finished)
+    match listing(heap, input) {
+        Ok(output) => write_output(output.bytes.as_slice(), output.outcome, to),
+        Err(unread) => match unread.line() {
+            Some(line) => write_output(&line, Outcome::Refused, to),
+            None => Err(RunError::Memory),
+        },
+    }
+}
+
+// Writes the bytes of an output, and answers how it ends.
+fn write_output<W: Write>(bytes: &[u8], outcome: Outcome, to: &mut W) -> Result<Outcome, RunError>
+    ensures bytes { Written bytes.now outcome (W.contents to.old) (W.contents to.new) result }
+    ensures retried { Uninterrupted result }
+{
+    match write_whole(to, bytes) {
+        Ok(()) => Ok(outcome),
+        Err(error) => Err(RunError::Writing(error)),
     }
 }

@@ -1,20 +1,21 @@
 // Why an input is not read.
-ghost use Rattle.listing.specs.Refusals.{refusal_number, told_by, unread_text};
+ghost use Rattle.listing.specs.Refusals.{refusal_number, told_by, unread_line, unread_text};
 ghost use Rattle.listing.specs.declared.unread.Unread.TheVariants.{Memory};
 ghost use Rattle.std.specs.Prelude.{◌≡◌, Some};
 
-use std::alloc::{AllocError, AllocFailed};
+use crate::closing_lines::refusal_line;
+use std::alloc::AllocError;
 use std::error::Error;
 use std::fmt;
 
-// What stands against an input, in the order in which it is looked at; memory may lack at any reading.
+// What stands against an input, in the order in which it is looked at; memory comes last, for an input that is in form.
 #[derive(Clone, Copy, PartialEq, Eq, Debug)]
 pub enum Unread {
     // It is longer than 32,768 bytes.
     TooLong,
     // This line, counted from 1, is the first out of form.
     Line(u32),
-    // There is no memory for the readings.
+    // There is no memory for the readings, or for the output.
     Memory,
 }
 
@@ -22,14 +23,6 @@ impl From<AllocError> for Unread {
     ghost from_gives = { λ _ unread. unread ≡ Memory };
 
     fn from(_error: AllocError) -> Unread {
-        Unread::Memory
-    }
-}
-
-impl<T: Drop> From<AllocFailed<T>> for Unread {
-    ghost from_gives = { λ _ unread. unread ≡ Memory };
-
-    fn from(_error: AllocFailed<T>) -> Unread {
         Unread::Memory
     }
 }
@@ -55,6 +48,13 @@ impl Unread {
             Unread::TooLong | Unread::Memory => 0,
         }
     }
+
+    // The line of the refusal; none where it is none, or where the line that it tells has more than eight digits.
+    pub fn line(self) -> Option<[u8; 14]>
+        ensures { result ≡ unread_line self }
+    {
+        refusal_line(self.refusal()?, self.told())
+    }
 }
 
 impl fmt::Display for Unread {
@@ -64,7 +64,7 @@ impl fmt::Display for Unread {
         match *self {
             Unread::TooLong => write!(f, "refused with 17, the input is over 32768 bytes"),
             Unread::Line(line) => write!(f, "refused with 18, line {line} is out of form"),
-            Unread::Memory => write!(f, "no memory for the readings"),
+            Unread::Memory => write!(f, "no memory for the readings or the output"),
         }
     }
 }

@@ -31,11 +31,11 @@ returns c =
     let shown : ShowsValues (block_means block.sides block.values.items) (sides_of c.args.input.header) c.args.input.readings.items =
     rw (lengths_same c.args.input.header c.into.result c.into.ensures) (IfOk-at_ok (λ b. ShowsValues (block_means b.sides b.values.items) c.into.result c.args.input.readings.items) c.unwrap-block.ensures c.new.ensures.shows) in
     IfOk-weaker c.refused.result _ _
-    (λ out text. record {
+    (λ out with. record {
       scan = block_means block.sides block.values.items;
       shows = shown;
       opening = Err c.in-Err.refusal;
       opened = c.in-Err.ensures;
-      lists = text ∙ ap₂ refusal_text c.from.ensures (c.voxel_told-told.ensures.told ∙ ap (λ s. voxel_told s c.in-Err.refusal) c.sides.ensures);
+      lists = (with.0 ∙ ap₂ refusal_text c.from.ensures (c.voxel_told-told.ensures.told ∙ ap (λ s. voxel_told s c.in-Err.refusal) c.sides.ensures), with.1);
     })
     c.refused.ensures
