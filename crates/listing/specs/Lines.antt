@@ -27,26 +27,16 @@ row_rest [] = None
 row_rest (b ∷ []) = None
 row_rest (b ∷ c ∷ rest) = if c == 44 then row_named b rest else None
 
--- The bytes that a line keeps, and those of each kind.
-abbrev pub line_bytes : lines.Line → List ℕ
-line_bytes (line.Header bytes) = bytes.now
-line_bytes (line.Row bytes) = bytes.now
-
-abbrev pub as_header : Option lines.Line → Option (List ℕ)
+-- What the two kinds of line keep: their bytes, and what follows letter and comma.
+abbrev pub as_header : Option lines.Line → Option (List ℕ × List ℕ)
 as_header None = None
-as_header (Some (line.Header bytes)) = Some bytes.now
-as_header (Some (line.Row bytes)) = None
+as_header (Some (line.Header bytes rest)) = Some (bytes.now, rest.now)
+as_header (Some (line.Row bytes rest)) = None
 
-abbrev pub as_row : Option lines.Line → Option (List ℕ)
+abbrev pub as_row : Option lines.Line → Option (List ℕ × List ℕ)
 as_row None = None
-as_row (Some (line.Header bytes)) = None
-as_row (Some (line.Row bytes)) = Some bytes.now
-
--- What follows the comma in bytes; nothing where there is none.
-abbrev pub rest_of : List ℕ → List ℕ
-rest_of [] = []
-rest_of (b ∷ []) = []
-rest_of (b ∷ c ∷ rest) = if c == 44 then rest else []
+as_row (Some (line.Header bytes rest)) = None
+as_row (Some (line.Row bytes rest)) = Some (bytes.now, rest.now)
 
 -- The header that a line writes.
 unfoldable pub header_of_line : List ℕ → Option Header

@@ -34,10 +34,9 @@ pub(crate) fn header_of_line(line: &[u8]) -> Option<Header>
     ensures read { result ≡ header_of_line line.now }
     ensures sides { IfSome result (λ h. (h.ny ≤ 256) × (h.nz ≤ 256)) }
 {
-    let line = Line::of(line)?;
-    match line {
-        Line::Header(_) => header_of_fields(line.rest()),
-        Line::Row(_) => None,
+    match Line::of(line)? {
+        Line::Header { rest, .. } => header_of_fields(rest),
+        Line::Row { .. } => None,
     }
 }
 

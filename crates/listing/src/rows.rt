@@ -51,10 +51,9 @@ pub(crate) fn read_rows(
 fn push_row(readings: &mut Readings, line: &[u8], nx: u32) -> Option<()>
     ensures { RowPut (row_of_line nx line.now) result (kept readings.old) (kept readings.new) }
 {
-    let line = Line::of(line)?;
-    match line {
-        Line::Row(_) => push_fields(readings, line.rest(), nx),
-        Line::Header(_) => None,
+    match Line::of(line)? {
+        Line::Row { rest, .. } => push_fields(readings, rest, nx),
+        Line::Header { .. } => None,
     }
 }
 
