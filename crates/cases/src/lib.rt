@@ -20,4 +20,6 @@ mod programs;
 #[cfg(test)]
 mod scans;
 #[cfg(test)]
+mod streams;
+#[cfg(test)]
 mod trays;
