@@ -52,6 +52,7 @@ fn accepted(rt: HostRuntime) -> Result<(), Fail> {
     Ok(())
 }
 
+// Each line is told whichever allocation fails.
 #[test]
 fn first_line_out_of_form(rt: HostRuntime) -> Result<(), Fail> {
     let told: [(&[u8], u32); 39] = [

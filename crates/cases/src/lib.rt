@@ -22,6 +22,8 @@ mod relays;
 #[cfg(test)]
 mod scans;
 #[cfg(test)]
+mod streams;
+#[cfg(test)]
 mod texts;
 #[cfg(test)]
 mod trays;
