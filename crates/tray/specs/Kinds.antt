@@ -34,6 +34,6 @@ any_steps m n k (Text s) (Records t) u p q h j = absurd h
 any_steps m n k (Records s) (Records t) (Text u) p q h j = absurd j
 any_steps m n k (Text s) (Text t) (Records u) p q h j = absurd j
 
--- It owes no more than the two kinds do.
+-- It meets what every tray owes, as each kind does.
 pub any_lawful : Lawful any_holds AnyKeeps
 any_lawful = record { fits = any_fits; stays = any_stays; steps = any_steps }
