@@ -3,11 +3,12 @@
 ghost use Rattle.cases.specs.Relays.{relayed, relayed_lawful};
 
 use crate::block::block;
+use crate::trays::with_places;
 use drawing::{Asked, Drawing, Ending, Letter, Progress, SolidTest};
 use grid::{Sides, Voxel};
 use scan::{Cause, Cutout, Fault, Scan, lowest_lacking};
 use std::test::Fail;
-use tray::{RecordTray, Tray};
+use tray::Tray;
 
 // A scan as another one tells it: it counts itself in each fault, also in that of a place outside.
 #[derive(Drop)]
@@ -69,8 +70,8 @@ fn a_relay_is_drawn_as_the_scan_below(rt: HostRuntime) -> Result<(), Fail> {
     let asked = Asked { test, s: 18, h: 6 };
     let block = block(heap, [3, 3, 3], &shell(9))?;
     let relay = Relay { below: &block };
-    let mut direct = RecordTray::new(heap, 8)?;
-    let mut relayed = RecordTray::new(heap, 8)?;
+    let mut direct = with_places(heap, 8)?;
+    let mut relayed = with_places(heap, 8)?;
     let done = Progress {
         drawn: 8,
         laid: 8,
@@ -99,7 +100,7 @@ fn a_relay_stops_at_a_hole(rt: HostRuntime) -> Result<(), Fail> {
     };
     let block = block(heap, [3, 3, 3], &shell(65_535))?;
     let relay = Relay { below: &block };
-    let mut tray = RecordTray::new(heap, 8)?;
+    let mut tray = with_places(heap, 8)?;
     let mut drawing = Drawing::open(&relay, Asked { test, s: 18, h: 6 })?;
     let cube = Voxel::from([0, 0, 0]);
     let fault = Fault::own(Cause::NoReading, [1, 1, 1].into()).pass_up();
