@@ -98,3 +98,14 @@ fn refused_without_memory(rt: HostRuntime) -> Result<(), Fail> {
     }
     Ok(())
 }
+
+#[test]
+fn printed_failures(rt: HostRuntime) -> Result<(), Fail> {
+    let read = RunError::Reading(ErrorKind::NotFound.into());
+    let text = format!(in rt.alloc(); "{read}")?;
+    assert!(rt; text.starts_with("reading failed: "));
+    let written = RunError::Writing(ErrorKind::NotFound.into());
+    let text = format!(in rt.alloc(); "{written}")?;
+    assert!(rt; text.starts_with("writing failed: "));
+    Ok(())
+}

@@ -37,8 +37,8 @@ asked_of a = record { test = record { threshold = a.threshold; letter = letter_o
 abbrev pub MakesBlock : Asking → List ℕ → Type 0
 MakesBlock a values = SidesFit (sides_of a) × (length values ≡ place_count a.x a.y a.z)
 
--- It is well asked where the readings make a block and nothing stands against opening it but what the readings may be: no side is 1,
--- the threshold is not 0, and the two numbers are those of a pair.
+-- It is well asked where the readings make a block and nothing but their values can stand against opening it: no side is 1, the
+-- threshold is not 0, and the two numbers are those of a pair.
 pub record WellAsked (a : Asking) (values : List ℕ) : Type 0 where
   pub block : MakesBlock a values
   pub sides : Sides

@@ -89,7 +89,8 @@ pub record Written (width : ℕ) (write : List Triangle → List ℕ) (a : Askin
   pub drew : Drew scan drawing a.budget (length before / width) told triangles
   pub handed : after ≡ write triangles ++ drop (width * length triangles) before
 
--- Refused: as an opening is, or over a budget of 0, which is looked at before the readings are; no memory is told only over another.
+-- Refused: as an opening is, or over a budget of 0, which comes before the values of the readings; want of memory is told only where
+-- the budget is not 0.
 abbrev pub DrawRefused : Asking → List ℕ → Refusal → Type 0
 DrawRefused a values (Scan e) = Refused a values (Scan e)
 DrawRefused a values (Open e) = Refused a values (Open e) × (WellAsked a values → a.budget ≢ 0)

@@ -48,8 +48,8 @@ impl Asking {
         }
     }
 
-    // Looks at all that can be told of an opening with no memory for the readings; refused, the first that applies, where they
-    // make no block, over a side of 1, the threshold and the pair.
+    // Decides all that needs no memory; refused, the first that applies, where the readings make no block, over a side of 1, the
+    // threshold and the pair.
     pub(crate) fn check(&self, readings: &[u16]) -> Result<(), Refusal>
         ensures { MatchResult result (λ _. WellAsked self.now readings.now) (λ e. Refused self.now readings.now e × (WellAsked self.now readings.now → ⊥)) }
     {

@@ -15,7 +15,8 @@ pub(crate) struct Opened {
     pub(crate) drawing: Drawing,
 }
 
-// A block of a copy of the readings, 1 micrometre apart, opened; refused over memory, and then as the opening is.
+// Copies the readings into a block, its voxels 1 micrometre apart, and opens a drawing of it; refused over memory, and then as
+// the opening is.
 pub(crate) fn open(heap: Global, asking: &Asking, readings: &[u16]) -> Result<Opened, Refusal>
     requires { WellAsked asking.now readings.now }
     ensures { OpenMade asking.now readings.now result }

@@ -26,7 +26,8 @@ fn hand_over(triangles: &[Triangle], numbers: &mut [u32])
     }
 }
 
-// Draws the readings into a tray with as many places as the numbers have, and hands the triangles over.
+// Draws the readings into a tray with as many places as the numbers have, and hands the triangles over. Refused as `check`
+// refuses, over a budget of 0, over memory, or as the opening is; the numbers then stay as they were.
 fn draw_records(
     heap: Global,
     asking: &Asking,
@@ -47,7 +48,8 @@ fn draw_records(
     Ok(told)
 }
 
-// Draws the readings by draws of the budget, and writes the corners of the triangles over the front of the numbers.
+// Draws the readings by draws of the budget, and writes the corners of the triangles over the front of the numbers. A refusal is
+// told by its number, and changes nothing that was lent.
 #[unsafe(no_mangle)]
 pub extern "C" fn exported_records(
     heap: Global,

@@ -11,7 +11,8 @@ use drawing::DrawRefusal;
 use std::alloc::Global;
 use tray::TextTray;
 
-// Draws the readings into a tray over as many bytes as are lent, and hands the text over.
+// Draws the readings into a tray over as many bytes as are lent, and hands the text over. Refused as `check` refuses, over a
+// budget of 0, over memory, or as the opening is; the text then stays as it was.
 fn draw_text(
     heap: Global,
     asking: &Asking,
@@ -32,7 +33,8 @@ fn draw_text(
     Ok(told)
 }
 
-// Draws the readings by draws of the budget, and writes the lines of the triangles over the front of the text.
+// Draws the readings by draws of the budget, and writes the lines of the triangles over the front of the text. A refusal is told
+// by its number, and changes nothing that was lent.
 #[unsafe(no_mangle)]
 pub extern "C" fn exported_text(
     heap: Global,

@@ -65,7 +65,7 @@ rows_of zero nx number [] = Ok []
 rows_of zero nx number (b ∷ bs) = Err number
 rows_of (suc n) nx number bs = or_told number (cut 10 bs) (λ c. or_told number (row_of_line nx c.0) (λ row. behind_all row (rows_of n nx (number + 1) c.1)))
 
--- The first line out of form is told by its number; want of memory is told only where there is none.
+-- The first line out of form is told by its number; want of memory is told only where all lines are in form.
 abbrev pub LineTold : {A : Type 0} → Result A ℕ → Unread → Type 0
 LineTold read TooLong = ⊥
 LineTold read (Line k) = read ≡ Err k

@@ -95,7 +95,7 @@ pub record InputLists (bytes out : List ℕ) (how : Outcome) : Type 0 where
   pub accepted : Accepted bytes header readings
   pub lists : ScanLists header readings out how
 
--- The output of the program, and how it is told to end. An input that is too long is refused with 17, and else the first line out
+-- The output of the program, and the outcome told with it. An input that is too long is refused with 17, and else the first line out
 -- of form with 18; any other input has a header and readings, and their output. Just one of these is so of any bytes.
 pub record Listing (bytes out : List ℕ) (how : Outcome) : Type 0 where
   pub too_long : most_bytes < length bytes → RefusedWith 17 0 out how

@@ -3,7 +3,7 @@ use Rattle.std.specs.Prelude.{◌≡◌, ℕ, List, ◌++◌, Some, None, Option
 use Rattle.std.specs.Option.{option_map}
 use Rattle.listing.specs.declared.readings.Readings.{Readings}
 
--- The readings, if memory for them did not lack.
+-- The readings so far; none once memory lacked.
 abbrev pub kept : Readings → Option (List ℕ)
 kept r = option_map (λ list. list.items) r.list
 

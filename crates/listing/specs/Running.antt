@@ -46,14 +46,14 @@ Written output how held holds (Err Memory) = ⊥
 Written output how held holds (Err (Reading e)) = ⊥
 Written output how held holds (Err (Writing e)) = FrontWritten held holds output
 
--- An input that was read is answered, and nothing else fails than memory or writing.
+-- An input that was read is answered; only memory and writing can fail then.
 abbrev pub Answered : List ℕ → Option (List ℕ) → Option (List ℕ) → Result Outcome RunError → Type 0
 Answered input held holds (Ok outcome) = OutputWritten input held holds outcome
 Answered input held holds (Err Memory) = OutputLacking input held holds
 Answered input held holds (Err (Reading e)) = ⊥
 Answered input held holds (Err (Writing e)) = OutputBroken input held holds
 
--- Where reading fails, less than the limit was taken, and nothing is written.
+-- Where reading fails, fewer bytes than the limit were taken, and nothing is written.
 abbrev pub ReadFailed : Option (List ℕ) → Option (List ℕ) → Option (List ℕ) → Option (List ℕ) → Type 0
 ReadFailed given left held holds = TakesFewer read_bytes given left × Keeps held holds
 

@@ -16,13 +16,13 @@ pub struct Input {
     pub readings: Vec<u16>,
 }
 
-// The most bytes that are read.
+// The most bytes that an input may have.
 pub(crate) const LIMIT: usize = 32_768;
 
 // The number of the first line.
 const FIRST: u32 = 1;
 
-// Reads an input. It is told where the bytes are too long, or else by the first line out of form.
+// Reads an input; refused where it is too long, else over its first line out of form, and last over memory.
 pub fn read(heap: Global, bytes: &[u8]) -> Result<Input, Unread>
     ensures told { MatchResult result (λ x. Accepted bytes.now x.header x.readings.items) (Refused bytes.now) }
     ensures once { OneAnswer bytes.now }

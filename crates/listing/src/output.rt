@@ -26,8 +26,8 @@ pub struct Output {
     pub outcome: Outcome,
 }
 
-// The output of an input: the triangles of its scan and the line of the end, or a refusal. An input that is not read is told,
-// and want of memory only of one that is in form.
+// The output of an input: the triangles of its scan and then the line of the end or of a refusal, or a refusal alone. Refused as
+// reading the input is, and last over memory.
 pub fn listing(heap: Global, input: &[u8]) -> Result<Output, Unread>
     ensures told { MatchResult result (λ output. InputLists input.now output.bytes.items output.outcome) (Refused input.now) }
     ensures once { OneAnswer input.now }

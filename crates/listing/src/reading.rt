@@ -23,7 +23,8 @@ pub(crate) fn read_into<R: Read>(from: &mut R, buffer: &mut [u8]) -> io::Result<
     Ok(count)
 }
 
-// One read, tried again as often as it is interrupted.
+// One read, tried again as often as it is interrupted. The loop is counted so that it ends: after 2^64 - 1 interruptions it
+// tells a time-out.
 fn read_once<R: Read>(from: &mut R, room: &mut [u8]) -> io::Result<usize>
     ensures bound { ReadsAtMost result room.new }
     ensures bytes { ReadConsumes (R.remaining from.old) (R.remaining from.new) result room.new }

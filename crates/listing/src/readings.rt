@@ -5,7 +5,7 @@ ghost use Rattle.listing.specs.Rows.{Gains, kept};
 
 use std::alloc::Global;
 
-// Readings, as long as there is memory for them: once it lacks there are none, and more of them are let go.
+// Readings, as long as there is memory for them: once it lacks there are none, and those that follow are dropped.
 #[derive(Drop)]
 pub(crate) struct Readings {
     list: Option<Vec<u16>>,

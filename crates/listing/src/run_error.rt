@@ -4,14 +4,14 @@ ghost use Rattle.listing.specs.Running.{run_error_text};
 use std::error::Error;
 use std::{fmt, io};
 
-// What failed. Before memory lacked, or reading failed, nothing was written.
+// What failed. Nothing was written where memory lacked or reading failed.
 #[derive(Clone, Copy, Debug)]
 pub enum RunError {
     // There was no memory for the readings of the input or for its output.
     Memory,
-    // The reader failed before the input was read.
+    // The reader failed before the whole input was read.
     Reading(io::Error),
-    // The writer failed before the output was written.
+    // The writer failed before the whole output was written.
     Writing(io::Error),
 }
 

@@ -14,8 +14,8 @@ use std::io::{Read, Write};
 const BYTES: usize = LIMIT + 1;
 
 // Reads an input, writes its output behind what the writer holds, and answers how the output ends. No more than 32,769 bytes
-// are taken from the reader. Refused only where memory, reading or writing fails: nothing is written where it is not writing
-// that fails, and else a front of the output.
+// are taken from the reader. It fails only over memory, reading or writing: where writing fails a front of the output is
+// written, and else nothing.
 pub fn run<R: Read, W: Write>(heap: Global, from: &mut R, to: &mut W) -> Result<Outcome, RunError>
     ensures bytes { Ran (R.remaining from.old) (R.remaining from.new) (W.contents to.old) (W.contents to.new) result }
     ensures retried { Uninterrupted result }

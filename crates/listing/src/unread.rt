@@ -49,7 +49,7 @@ impl Unread {
         }
     }
 
-    // The line of the refusal; none where it is none, or where the line that it tells has more than eight digits.
+    // The line of the refusal; none for want of memory, or where the number of the line told has more than eight digits.
     pub fn line(self) -> Option<[u8; 14]>
         ensures { result ≡ unread_line self }
     {

@@ -20,7 +20,8 @@ pub(crate) fn write_whole<W: Write>(to: &mut W, bytes: &[u8]) -> io::Result<()>
     Ok(())
 }
 
-// Writes some bytes of the front, at least one; tried again as often as it is interrupted.
+// Writes some bytes of the front, at least one; tried again as often as it is interrupted, by a loop that is counted as that
+// of a read.
 fn write_some<W: Write>(to: &mut W, bytes: &[u8]) -> io::Result<usize>
     requires { 0 < length bytes.now }
     ensures bound { WritesAtMost result bytes.now }
