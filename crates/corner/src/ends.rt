@@ -20,8 +20,8 @@ impl Ends {
     {
         let link = scan.sides().link_at(number).ok_or(PlaceRefusal::NoLink)?;
         let upper = link.upper().ok_or(PlaceRefusal::NoLink)?;
-        let low = scan.read(link.lower).or(Err(PlaceRefusal::Lacking))?;
-        let high = scan.read(upper).or(Err(PlaceRefusal::Lacking))?;
+        let low = scan.read(link.lower).map_err(|_| PlaceRefusal::Lacking)?;
+        let high = scan.read(upper).map_err(|_| PlaceRefusal::Lacking)?;
         Ok(Ends { link, low, high })
     }
 }

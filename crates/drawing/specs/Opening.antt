@@ -29,8 +29,8 @@ Thin s = (s.x ≡ 1) ⊎ ((s.y ≡ 1) ⊎ (s.z ≡ 1))
 abbrev pub Paired : ℕ → ℕ → Type 0
 Paired s h = (p : Pair) × (numbers p ≡ (s, h))
 
--- What can be told of an opening by the sides alone, whatever the readings are: the first of these refusals that applies, and else the
--- pair with the two numbers.
+-- What is told of an opening before any reading is asked: the first of these refusals that applies, and else the pair with the
+-- two numbers.
 abbrev pub GivesPair : Sides → Asked → Result Pair OpenRefusal → Type 0
 GivesPair s a (Ok pair) = (Thin s → ⊥) × (a.test.threshold ≢ 0) × (numbers pair ≡ (a.s, a.h))
 GivesPair s a (Err ThinSide) = Thin s

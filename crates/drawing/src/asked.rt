@@ -18,8 +18,8 @@ pub struct Asked {
 }
 
 impl Asked {
-    // The pair that is asked for, of a scan with these sides, whatever it reads; refused, the first that applies, over a side
-    // of 1, the threshold and the pair.
+    // The pair that is asked for, for a scan with these sides, whatever its readings are; refused over the first of these that
+    // applies: a side of 1, a threshold of 0, two numbers of no pair.
     pub fn pair(self, sides: Sides) -> Result<Pair, OpenRefusal>
         ensures { GivesPair sides self result }
     {

@@ -1,5 +1,5 @@
 // Drawing on: cube after cube, until the budget or the cubes run out or a cube cannot be drawn.
-ghost use Rattle.std.specs.Prelude.{◌≡◌, ◌≤◌};
+ghost use Rattle.std.specs.Prelude.{◌≡◌, ◌≤◌, IfErr};
 ghost use Rattle.drawing.specs.Draws.{Drawn, Draws};
 ghost use Rattle.drawing.specs.Stretches.{Stretched};
 ghost use Rattle.grid.specs.Cubes.{cube_count};
@@ -59,6 +59,7 @@ impl Drawing {
         budget: u32,
     ) -> Result<Progress, DrawRefusal>
         ensures draws { Draws (S.Scan.means scan.now) budget self.old (T.Tray.holds tray.old) result self.new (T.Tray.holds tray.new) }
+        ensures refused { IfErr result (λ _. tray.new ≡ tray.old) }
         ensures rest { KeepsRest T.Tray.holds T.Tray.keeps tray.old tray.new }
     {
         if scan.sides() != self.sides {

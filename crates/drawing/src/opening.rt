@@ -16,7 +16,7 @@ impl Drawing {
     pub fn open<S: Scan>(scan: &S, asked: Asked) -> Result<Drawing, OpenRefusal>
         ensures { Opened (S.Scan.means scan.now) asked result }
     {
-        let Asked { test, .. } = asked;
+        let test = asked.test;
         let sides = scan.sides();
         let pair = asked.pair(sides)?;
         if let Some(lacking) = lowest_lacking(scan) {

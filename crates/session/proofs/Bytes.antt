@@ -28,7 +28,7 @@ overwritten x y k =
     let ts = (text_holds y).list in
     let count : length ts ≡ y.held = y.spells.count in
     let front : text_of ts ≡ take (27 * length ts) bs = y.spells.text ∙ ap (λ (n : ℕ). take (27 * n) bs) (sym count) in
-    sym (take-append-drop (27 * length ts) bs) ∙ ap₂ (λ (a b : List ℕ). a ++ b) (sym front) k.rest.1
+    sym (take-append-drop (27 * length ts) bs) ∙ ap₂ (λ (a b : List ℕ). a ++ b) (sym front) k.rest.0.1
 
 -- The same call again.
 call_again : (c : Call) → call_by again c ≡ c

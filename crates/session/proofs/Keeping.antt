@@ -1,7 +1,7 @@
 -- What calls leave of the trays themselves. Assumes nothing.
-use Rattle.std.proofs.Common.{◌≡◌, ℕ, suc, ◌<◌, ◌≤◌, ◌⊎◌, List, [], ◌∷◌, map, length, get_or, set, Ok, Err, Result, Some, None, Option, sym, refl, ap, ◌∙◌, subst, inl, inr, ⊎_elim, arith, length-append, length-set, get_or-set_other, get_or-set_same}
+use Rattle.std.proofs.Common.{◌≡◌, ℕ, suc, ◌<◌, ◌≤◌, ◌⊎◌, List, [], ◌∷◌, map, length, get_or, set, Ok, Err, IfErr, Result, Some, None, Option, sym, refl, ap, ◌∙◌, subst, inl, inr, ⊎_elim, arith, length-append, length-set, get_or-set_other, get_or-set_same}
 use lib.ListN.{length-map}
-use Rattle.std.proofs.lemmas.List.{get_or_default, get_or_past}
+use Rattle.std.proofs.lemmas.List.{get_or_default, get_or_past, set-get_or}
 use Rattle.std.proofs.lemmas.Bool.{cases_eq, cases_lt}
 use Rattle.scan.specs.Meaning.{Meaning}
 use Rattle.tray.specs.Holding.{Held, Lawful, places, KeepsRest}
@@ -12,8 +12,9 @@ use Rattle.drawing.specs.declared.drawing.Drawing.{Drawing}
 use Rattle.drawing.specs.declared.progress.DrawRefusal.{DrawRefusal}
 use Rattle.drawing.specs.declared.progress.DrawRefusal.TheVariants.{OtherSides, ZeroBudget}
 use Rattle.drawing.specs.declared.progress.Progress.{Progress}
-use Rattle.session.specs.Keeping.{Kept, OneKept, LeavesBut, Leaves, Standing, world_of, RunsOn, AllKept}
+use Rattle.session.specs.Keeping.{Kept, OneKept, LeavesBut, Leaves, WhereRefused, Standing, world_of, RunsOn, AllKept}
 use Rattle.session.specs.declared.call.Answer.{Answer}
+use Rattle.session.specs.declared.call.Answer.TheVariants.{Drawn}
 use Rattle.session.specs.declared.call.Call.{Call}
 use Rattle.session.specs.declared.call.Call.TheVariants.{Open, Draw, DrawOther, Close, Empty}
 use Rattle.session.specs.declared.call.Entry.{Entry}
@@ -31,6 +32,11 @@ draw_places m budget d d' h h' (Ok p) law =
 draw_places m budget d d' h h' (Err OtherSides) law = ap places law.2
 draw_places m budget d d' h h' (Err ZeroBudget) law = ap places law.3
 
+-- A refused draw leaves the list as it was.
+pub untouched : {T : Type 0} (xs : List T) (i : ℕ) (x y : T) (r : Result Progress DrawRefusal) → IfErr r (λ e. y ≡ get_or xs i x) → WhereRefused (Drawn r) (set xs i y ≡ xs)
+untouched xs i x y (Ok p) h = tt
+untouched xs i x y (Err e) h = ap (set xs i) h ∙ set-get_or xs i x
+
 module _ {T : Type 0} (holds : T → Held) (keeps : ℕ → T → T → Type 0) where
   -- One tray of a list changes.
   pub one_kept : (xs : List T) (i : ℕ) (x y : T) → i < length xs → places (holds y) ≡ places (holds (get_or xs i x)) → KeepsRest holds keeps (get_or xs i x) y
@@ -45,7 +51,7 @@ module _ {T : Type 0} (holds : T → Held) (keeps : ℕ → T → T → Type 0) 
 
   changed_but : (i : ℕ) (a : Option Answer) (xs ys : List T) → LeavesBut holds keeps i a xs ys → Changed xs ys
   changed_but i None xs ys h = inl h
-  changed_but i (Some a) xs ys h = inr (i, h)
+  changed_but i (Some a) xs ys h = inr (i, h.0)
 
   pub changed : (c : Call) (a : Option Answer) (xs ys : List T) → Leaves holds keeps c a xs ys → Changed xs ys
   changed (Open asked) a xs ys h = inl h

@@ -14,13 +14,13 @@ Overwritten =
     (before after : TextTray) → Kept text_holds TextKeeps before after
     → bytes_of after ≡ text_of (text_holds after).list ++ drop (27 * length (text_holds after).list) (bytes_of before)
 
--- Text trays of the same bytes that hold the same.
+-- Two lists of text trays that, tray by tray, hold the same and have the same bytes.
 pub record SameTexts (ts us : List TextTray) : Type 0 where
   pub many : length us ≡ length ts
   pub held : (t : ℕ) (d : TextTray) → text_holds (slice_index_or us t d) ≡ text_holds (slice_index_or ts t d)
   pub bytes : (t : ℕ) (d : TextTray) → bytes_of (slice_index_or us t d) ≡ bytes_of (slice_index_or ts t d)
 
--- The same calls on the same scan leave the same bytes in text trays that had the same.
+-- The same calls on the same scan leave the same bytes in text trays that had the same bytes and held the same.
 abbrev pub SameBytes : Meaning → List Meaning → Type 0
 SameBytes m others =
     (ts us : List TextTray) (es es' : List Entry) (s s' : Standing TextTray) → SameTexts ts us → calls_of es' ≡ calls_of es

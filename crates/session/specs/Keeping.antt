@@ -1,11 +1,12 @@
--- What the calls of a list leave of the trays themselves, call by call and in all. Assumes nothing.
-use Rattle.std.specs.Prelude.{◌≡◌, ℕ, suc, ◌≤◌, List, [], ◌∷◌, map, length, take, slice_index_or, slice_set, Some, None, Option}
+-- What the calls of a list do to the trays themselves, call by call and in all. Assumes nothing.
+use Rattle.std.specs.Prelude.{◌≡◌, ℕ, suc, ◌≤◌, List, [], ◌∷◌, map, length, take, slice_index_or, slice_set, Some, None, Option, Ok, Err}
 use Rattle.scan.specs.Meaning.{Meaning}
 use Rattle.tray.specs.Holding.{Held, places, KeepsRest}
 use Rattle.tray.specs.declared.triangle.Triangle.{Triangle}
 use Rattle.session.specs.Worlds.{World, tray_at}
 use Rattle.session.specs.Calls.{Made, Runs}
 use Rattle.session.specs.declared.call.Answer.{Answer}
+use Rattle.session.specs.declared.call.Answer.TheVariants.{Opened, Drawn, Closed, Emptied}
 use Rattle.session.specs.declared.call.Call.{Call}
 use Rattle.session.specs.declared.call.Call.TheVariants.{Open, Draw, DrawOther, Close, Empty}
 use Rattle.session.specs.declared.call.Entry.{Entry}
@@ -23,9 +24,17 @@ pub record OneKept {T : Type 0} (holds : T → Held) (keeps : ℕ → T → T �
   pub only : after ≡ slice_set before t tray
   pub kept : (d : T) → Kept holds keeps (slice_index_or before t d) tray
 
--- A call that names a tray keeps it, and touches no other; where it is not made it touches none.
+-- What holds where a draw is refused.
+abbrev pub WhereRefused : Answer → Type 0 → Type 0
+WhereRefused (Drawn (Err e)) X = X
+WhereRefused (Drawn (Ok p)) X = Unit {0}
+WhereRefused (Opened r) X = Unit {0}
+WhereRefused (Closed r) X = Unit {0}
+WhereRefused Emptied X = Unit {0}
+
+-- A call that names a tray keeps it, and touches no other; a refused draw touches none, and neither does a call that is not made.
 abbrev pub LeavesBut : {T : Type 0} → (T → Held) → (ℕ → T → T → Type 0) → ℕ → Option Answer → List T → List T → Type 0
-LeavesBut holds keeps t (Some a) before after = OneKept holds keeps t before after
+LeavesBut holds keeps t (Some a) before after = OneKept holds keeps t before after × WhereRefused a (after ≡ before)
 LeavesBut holds keeps t None before after = after ≡ before
 
 -- What a call leaves of the trays. An opening and a closing touch none.
@@ -56,7 +65,7 @@ RunsOn {T} m others holds keeps s (e ∷ es) s' =
     (u : Standing T) × Made m others (world_of holds s) e.call e.answer (world_of holds u)
     × Leaves holds keeps e.call e.answer s.trays u.trays × RunsOn m others holds keeps u es s'
 
--- After no call of a list does a tray hold more than n triangles.
+-- After no call of a list, or at the start where there is none, does a tray hold more than n triangles.
 abbrev pub HoldsAtMost : Meaning → List Meaning → World → List Entry → ℕ → ℕ → Type 0
 HoldsAtMost m others w es t n = (k : ℕ) (v : World) → Runs m others w (take (suc k) es) v → length (tray_at v.trays t).list ≤ n
 

@@ -18,7 +18,8 @@ pub record Ran {T : Type 0} (m : Meaning) (others : List Meaning) (holds : T →
   pub surface : Surfaced m state laid
   -- The same calls again answer and lay the same; exchanged, they lay the same triangles turned over.
   pub repeats : Repeats m others (map holds before) es (record { state = state; trays = map holds after; laid = laid })
-  -- From the start, and from any moment on, each tray keeps its places, and all past the most that it holds after a later call.
+  -- Through all the calls, and through the later ones from any moment on, each tray keeps its number of places, and all past the
+  -- most triangles that it holds after any of them.
   pub kept : (u : Standing T) (later : List Entry)
       → RunsOn m others holds keeps u later (record { state = state; trays = after; laid = laid })
       → AllKept m others holds keeps u later after

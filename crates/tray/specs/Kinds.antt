@@ -1,4 +1,4 @@
--- What a tray of either kind means: what the tray inside does. Assumes nothing.
+-- What a tray of either kind means: what the tray inside it means. Assumes nothing.
 use Rattle.std.specs.Prelude.{ℕ, ◌^◌, ◌<◌, ◌≤◌}
 use Rattle.tray.specs.declared.any_tray.AnyTray.{AnyTray}
 use Rattle.tray.specs.declared.any_tray.AnyTray.TheVariants.{Records, Text}

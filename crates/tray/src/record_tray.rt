@@ -8,7 +8,7 @@ pub mod calls;
 // A tray with one place for each record of the list that it is given; triangle n stands in record n.
 #[derive(Drop)]
 pub struct RecordTray {
-    // Whole, as it was given and as it is handed back; so the number of records written over stands beside it.
+    // Whole, with the records behind those that it holds; how many it holds stands beside it.
     list: Vec<Triangle>,
     held: usize,
     ghost within: { held ≤ vec_len list },

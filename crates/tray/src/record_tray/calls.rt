@@ -24,8 +24,8 @@ impl RecordTray {
         &self.list[..self.held]
     }
 
-    // Ends the tray, and hands the list back, whole: in front stand the triangles that it held, and then what stood there at any
-    // time since which no record past them was written over.
+    // Ends the tray, and hands the whole list back: in front the triangles that it held, and behind them each record as it stood
+    // at any time since which none past them was written over.
     pub fn into_list(self) -> Vec<Triangle>
         ensures list { result ≡ self.list }
         ensures held { take (length (record_holds self).list) result.items ≡ (record_holds self).list }

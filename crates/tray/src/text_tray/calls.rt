@@ -28,8 +28,8 @@ impl TextTray {
         &self.bytes[..end]
     }
 
-    // Ends the tray, and hands the bytes back, whole: in front stands the text of what it held, and then what stood there at any
-    // time since which no line past the text was written.
+    // Ends the tray, and hands all of the bytes back: in front the text of what it held, and behind it each byte as it stood at
+    // any time since which no line past the text was written.
     pub fn into_bytes(self) -> Vec<u8>
         ensures bytes { result ≡ self.bytes }
         ensures text { take (27 * length (text_holds self).list) result.items ≡ text_of (text_holds self).list }

@@ -1,7 +1,7 @@
 use Rattle.std.proofs.Common.{◌<◌, [], map, length, get_or, refl, inr, arith}
 use lib.ListN.{length-map}
 use Rattle.std.proofs.lemmas.List.{map-set}
-use Rattle.session.proofs.Keeping.{one_kept, draw_places}
+use Rattle.session.proofs.Keeping.{one_kept, draw_places, untouched}
 use Rattle.session.proofs.Stepping.{no_more, at_tray, drew}
 use Rattle.session.proofs.step.draw.Goals as goal
 
@@ -27,9 +27,11 @@ returns-in-Opened g c =
       tries =
           drew m c.args.budget t c.args.state hs _ d d' (holds x) (holds y) r _ c.in-Opened.is
           (at_tray holds trays t _ c.if-tray-trays.false) lt law refl (map-set holds trays t y);
-      rest =
-          one_kept holds g.T.Tray.keeps trays t c.index-trays-tray.result y c.if-tray-trays.false
-          (draw_places m c.args.budget d d' (holds x) (holds y) r law) c.draw-result.ensures.rest;
+      rest = (
+        one_kept holds g.T.Tray.keeps trays t c.index-trays-tray.result y c.if-tray-trays.false
+            (draw_places m c.args.budget d d' (holds x) (holds y) r law) c.draw-result.ensures.rest,
+        untouched trays t c.index-trays-tray.result y r c.draw-result.ensures.refused,
+      );
     }
 
 pub returns-in_default : goal.returns-in_default

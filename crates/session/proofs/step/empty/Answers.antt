@@ -23,7 +23,9 @@ returns g c =
         omega (arith, length-map trays holds, c.if-tray-trays.false),
         (refl, ap (λ hs. world c.args.state hs ts) (map-set holds trays t y ∙ ap (set (map holds trays) t) (empty ∙ ap emptied (sym at)))),
       );
-      rest =
-          one_kept holds g.T.Tray.keeps trays t c.index-trays-tray.result y c.if-tray-trays.false
-          (ap places empty ∙ places_emptied (holds x)) (subst (λ (n : ℕ). g.T.Tray.keeps n x y) (sym none) c.empty.ensures.rest);
+      rest = (
+        one_kept holds g.T.Tray.keeps trays t c.index-trays-tray.result y c.if-tray-trays.false
+            (ap places empty ∙ places_emptied (holds x)) (subst (λ (n : ℕ). g.T.Tray.keeps n x y) (sym none) c.empty.ensures.rest),
+        tt,
+      );
     }

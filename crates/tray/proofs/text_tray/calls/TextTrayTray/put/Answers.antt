@@ -1,4 +1,4 @@
-use Rattle.std.proofs.Common.{◌≡◌, ℕ, ◌+◌, ◌-◌, ◌*◌, ◌/◌, ◌≤◌, List, length, drop, Vec, sym, ap, ◌∙◌, subst, arith}
+use Rattle.std.proofs.Common.{◌≡◌, ℕ, ◌+◌, ◌-◌, ◌*◌, ◌/◌, ◌≤◌, List, length, drop, Vec, sym, ap, ◌∙◌, subst, arith, refl}
 use Rattle.std.specs.Vec.{with_items}
 use Rattle.std.specs.declared.alloc.Global.{Global}
 use Rattle.std.proofs.lemmas.List.{with_items_is}
@@ -45,4 +45,4 @@ returns-clause-rest c =
     let s = c.args.self.now in
     let told = c.in_ok-write_line_at.ensures in
     let next = next_spells s.bytes _ _ s.held c.args.triangle c.as_mut_slice.ensures.value told.0 told.1 s.spells in
-    rest_stays s.bytes _ _ s.held c.args.triangle c.as_mut_slice.ensures.value told.0 told.1 _ next.count
+    (rest_stays s.bytes _ _ s.held c.args.triangle c.as_mut_slice.ensures.value told.0 told.1 _ next.count, (refl, (refl, refl)))
