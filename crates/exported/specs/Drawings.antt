@@ -13,9 +13,10 @@ use Rattle.drawing.specs.Opening.{Accepted}
 use Rattle.drawing.specs.declared.drawing.Drawing.{Drawing}
 use Rattle.drawing.specs.declared.progress.Ending.{Ending}
 use Rattle.drawing.specs.declared.progress.Ending.TheVariants.{Done, Budget, Lacking, Full}
-use Rattle.exported.specs.Askings.{Refused, WellAsked, asked_of, sides_of}
+use Rattle.exported.specs.Askings.{OpenMade, Refused, WellAsked, asked_of, sides_of}
 use Rattle.exported.specs.Refusals.{number}
 use Rattle.exported.specs.declared.asking.Asking.{Asking}
+use Rattle.exported.specs.declared.opening.Opened.{Opened as OpenedScan}
 use Rattle.exported.specs.declared.refusal.Refusal.{Refusal}
 use Rattle.exported.specs.declared.refusal.Refusal.TheVariants.{Scan, Open, Draw, Memory}
 use Rattle.exported.specs.declared.told.Told.{Told}
@@ -96,6 +97,11 @@ DrawRefused a values (Scan e) = Refused a values (Scan e)
 DrawRefused a values (Open e) = Refused a values (Open e) × (WellAsked a values → a.budget ≢ 0)
 DrawRefused a values (Draw e) = (e ≡ ZeroBudget) × WellAsked a values × (a.budget ≡ 0)
 DrawRefused a values Memory = WellAsked a values × (a.budget ≢ 0)
+
+-- A scan that shows the readings is open as it is asked, to be drawn by draws of a budget that is not 0; or it is refused.
+abbrev pub DrawStarted : Asking → List ℕ → Result OpenedScan Refusal → Type 0
+DrawStarted a values (Ok o) = (a.budget ≢ 0) × WellAsked a values × OpenMade a values (Ok o)
+DrawStarted a values (Err e) = DrawRefused a values e
 
 -- What is drawn is written; a refusal writes nothing.
 abbrev pub Draws : (width : ℕ) → (List Triangle → List ℕ) → Asking → List ℕ → List ℕ → Result Told Refusal → List ℕ → Type 0

@@ -1,10 +1,11 @@
 // Opening a drawing of the readings.
 ghost use Rattle.std.specs.Prelude.{◌≡◌};
 ghost use Rattle.exported.specs.Askings.{OpenMade, OpenTold, WellAsked};
+ghost use Rattle.exported.specs.Drawings.{DrawStarted};
 
 use crate::asking::Asking;
 use crate::refusal::Refusal;
-use drawing::Drawing;
+use drawing::{DrawRefusal, Drawing};
 use scan::Block;
 use std::alloc::Global;
 
@@ -17,7 +18,7 @@ pub(crate) struct Opened {
 
 // Copies the readings into a block, its voxels 1 micrometre apart, and opens a drawing of it; refused over memory, and then as
 // the opening is.
-pub(crate) fn open(heap: Global, asking: &Asking, readings: &[u16]) -> Result<Opened, Refusal>
+fn open(heap: Global, asking: &Asking, readings: &[u16]) -> Result<Opened, Refusal>
     requires { WellAsked asking.now readings.now }
     ensures { OpenMade asking.now readings.now result }
 {
@@ -32,6 +33,19 @@ fn open_asked(heap: Global, asking: &Asking, readings: &[u16]) -> Result<Opened,
     ensures { OpenMade asking.now readings.now result }
 {
     asking.check(readings)?;
+    open(heap, asking, readings)
+}
+
+// Opens a drawing of the readings, to be drawn by draws of the budget; refused as `check` refuses, over a budget of 0, over memory,
+// or as the opening is.
+#[tactic(auto, using(crate::proofs::Askings::over_any_budget, crate::proofs::Askings::over_this_budget))]
+pub(crate) fn start(heap: Global, asking: &Asking, readings: &[u16]) -> Result<Opened, Refusal>
+    ensures { DrawStarted asking.now readings.now result }
+{
+    asking.check(readings)?;
+    if asking.budget == 0 {
+        return Err(DrawRefusal::ZeroBudget.into());
+    }
     open(heap, asking, readings)
 }
 

@@ -4,10 +4,9 @@ ghost use Rattle.exported.specs.Drawings.{Draws, NumbersTold, numbers_of};
 
 use crate::asking::Asking;
 use crate::drawing_on::draw_on;
-use crate::opening::{Opened, open};
+use crate::opening::{Opened, start};
 use crate::refusal::Refusal;
 use crate::told::Told;
-use drawing::DrawRefusal;
 use std::alloc::Global;
 use tray::{RecordTray, Triangle};
 
@@ -26,8 +25,8 @@ fn hand_over(triangles: &[Triangle], numbers: &mut [u32])
     }
 }
 
-// Draws the readings into a tray with as many places as the numbers have, and hands the triangles over. Refused as `check`
-// refuses, over a budget of 0, over memory, or as the opening is; the numbers then stay as they were.
+// Draws the readings into a tray with as many places as the numbers have, and hands the triangles over. Refused as `start`
+// refuses, and over memory; the numbers then stay as they were.
 fn draw_records(
     heap: Global,
     asking: &Asking,
@@ -36,11 +35,7 @@ fn draw_records(
 ) -> Result<Told, Refusal>
     ensures { Draws 3 numbers_of asking.now readings.now numbers.old result numbers.new }
 {
-    asking.check(readings)?;
-    if asking.budget == 0 {
-        return Err(DrawRefusal::ZeroBudget.into());
-    }
-    let Opened { block, mut drawing } = open(heap, asking, readings)?;
+    let Opened { block, mut drawing } = start(heap, asking, readings)?;
     let blank = Triangle::new(0, 1, 2).unwrap();
     let mut tray = RecordTray::new(vec![in heap; blank; numbers.len() / CORNERS]?);
     let told = draw_on(&block, &mut drawing, &mut tray, asking.budget);

@@ -4,15 +4,14 @@ ghost use Rattle.tray.specs.Texts.{text_of};
 
 use crate::asking::Asking;
 use crate::drawing_on::draw_on;
-use crate::opening::{Opened, open};
+use crate::opening::{Opened, start};
 use crate::refusal::Refusal;
 use crate::told::Told;
-use drawing::DrawRefusal;
 use std::alloc::Global;
 use tray::TextTray;
 
-// Draws the readings into a tray over as many bytes as are lent, and hands the text over. Refused as `check` refuses, over a
-// budget of 0, over memory, or as the opening is; the text then stays as it was.
+// Draws the readings into a tray over as many bytes as are lent, and hands the text over. Refused as `start` refuses, and
+// over memory; the text then stays as it was.
 fn draw_text(
     heap: Global,
     asking: &Asking,
@@ -21,11 +20,7 @@ fn draw_text(
 ) -> Result<Told, Refusal>
     ensures { Draws 27 text_of asking.now readings.now text.old result text.new }
 {
-    asking.check(readings)?;
-    if asking.budget == 0 {
-        return Err(DrawRefusal::ZeroBudget.into());
-    }
-    let Opened { block, mut drawing } = open(heap, asking, readings)?;
+    let Opened { block, mut drawing } = start(heap, asking, readings)?;
     let mut tray = TextTray::new(Vec::from_elem(heap, 0u8, text.len())?);
     let told = draw_on(&block, &mut drawing, &mut tray, asking.budget);
     let written = tray.text();

@@ -1,8 +1,8 @@
-use Rattle.std.proofs.Common.{◌≡◌, ◌/◌, length, rules, subst}
-use Rattle.scan.specs.Blocks.{block_means}
+use Rattle.std.proofs.Common.{rules}
 use Rattle.tray.specs.Records.{record_holds}
-use Rattle.exported.specs.Drawings.{Drew}
+use Rattle.exported.specs.Drawings.{numbers_of}
 use Rattle.exported.proofs.Askings.{some_cube}
+use Rattle.exported.proofs.Handing.{handed_over}
 use Rattle.exported.proofs.records.draw_records.Goals as goal
 
 pub draw_on-told-requires-clause-cubes : goal.draw_on-told-requires-clause-cubes
@@ -10,17 +10,5 @@ draw_on-told-requires-clause-cubes c = search (rules, some_cube)
 
 pub returns : goal.returns
 returns c =
-    let o = c.in_ok-block.field-0 in
-    let m = block_means o.block.sides o.block.values.items in
-    let ts = (record_holds c.draw_on-told.new.tray).list in
-    let places : (record_holds c.new-tray.result).free ≡ length c.args.numbers.now / 3 = search rules in
-    record {
-      budgeted = search rules;
-      scan = m;
-      shows = c.in_ok-block.ensures.0;
-      drawing = o.drawing;
-      opened = c.in_ok-block.ensures.1;
-      triangles = ts;
-      drew = subst (λ n. Drew m o.drawing c.args.asking.now.budget n c.draw_on-told.result ts) places c.draw_on-told.ensures;
-      handed = search rules;
-    }
+    handed_over 3 numbers_of c.args.asking.now c.args.readings.now c.args.numbers.now _ c.in_ok-block.field-0 c.draw_on-told.result (record_holds c.new-tray.result).free
+    (record_holds c.draw_on-told.new.tray).list c.in_ok-block.ensures (search rules) c.draw_on-told.ensures (search rules)
