@@ -1,5 +1,6 @@
 // The surface inside one cube, under each of the four pairs.
 use cube::{Connectedness, Mask, Pair};
+use std::array;
 
 // The four pairs.
 const PAIRS: [Pair; 4] = [Pair::S18H6, Pair::S26H6, Pair::S6H18, Pair::S6H26];
@@ -99,9 +100,9 @@ fn begins_group(mask: Mask, c: Connectedness, first: u8) -> bool {
 
 // How many triangles all masks have together under a pair, and at most.
 fn show_totals(rt: &HostRuntime, pair: Pair) -> anyhow::Result<()> {
-    let counts: Vec<usize> = (0..=255u8)
-        .map(|bits| cube::triangles(Mask(bits), pair).triangles().len())
-        .collect(rt.alloc())?;
+    let counts: [usize; 256] = array::from_fn(|bits| cube::triangles(Mask(bits as u8), pair)
+        .triangles()
+        .len());
     let total = counts
         .iter()
         .fold(0usize, |sum, count| sum.saturating_add(*count));

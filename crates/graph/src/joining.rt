@@ -77,5 +77,6 @@ pub fn joined(mask: Mask, c: Connectedness, a: u8, b: u8) -> bool
         mask,
         connectedness: c,
     };
-    solid.reached(a).get(b as usize).copied().unwrap_or(false)
+    // What is past the eighth is told apart before any step is taken.
+    b < 8 && solid.reached(a)[b as usize]
 }

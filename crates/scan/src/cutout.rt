@@ -43,10 +43,12 @@ impl<S: Scan> Scan for Cutout<S> {
     }
 
     fn read(&self, place: Voxel) -> Result<u16, Fault> {
-        if !self.sides().holds(place) {
+        // The scan below is asked once for its sides: in a pile each question goes through all cut-outs below.
+        let whole = self.below.sides();
+        if !clip::part(whole, self.low, self.lengths).holds(place) {
             return Err(Fault::own(Cause::Outside, place));
         }
-        let corner = clip::corner(self.below.sides(), self.low);
+        let corner = clip::corner(whole, self.low);
         // By axis, as the voxel of a cube is: a sum of voxels would ask its callers to stay below the last number, and no public
         // call here asks anything of its callers.
         let shown = Voxel {
